@@ -1,0 +1,5 @@
+pub mod Wordwise
+pub mod Entries
+pub mod Rounds
+pub mod Refused
+pub mod Undoing

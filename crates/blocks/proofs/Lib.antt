@@ -1,0 +1,3 @@
+pub mod Octetwise
+pub mod Numbers
+pub mod Reversed

@@ -1,0 +1,4 @@
+pub mod Octets
+pub mod Fields
+pub mod Steps
+pub mod Answers
