@@ -27,7 +27,7 @@ pub fn field16(n: u16) -> [u8; 2]
     ensures value { λ r. ⌜ r ≡ field 2 n ⌝ }
     ensures undone { λ r. ⌜ number r ≡ n ⌝ }
 {
-    n.to_le_bytes()
+    u16::to_le_bytes(n)
 }
 
 pub fn number32(octets: [u8; 4]) -> u32
@@ -41,7 +41,7 @@ pub fn field32(n: u32) -> [u8; 4]
     ensures value { λ r. ⌜ r ≡ field 4 n ⌝ }
     ensures undone { λ r. ⌜ number r ≡ n ⌝ }
 {
-    n.to_le_bytes()
+    u32::to_le_bytes(n)
 }
 
 pub fn number64(octets: [u8; 8]) -> u64
@@ -55,7 +55,7 @@ pub fn field64(n: u64) -> [u8; 8]
     ensures value { λ r. ⌜ r ≡ field 8 n ⌝ }
     ensures undone { λ r. ⌜ number r ≡ n ⌝ }
 {
-    n.to_le_bytes()
+    u64::to_le_bytes(n)
 }
 
 pub fn number128(octets: [u8; 16]) -> u128
@@ -69,5 +69,5 @@ pub fn field128(n: u128) -> [u8; 16]
     ensures value { λ r. ⌜ r ≡ field 16 n ⌝ }
     ensures undone { λ r. ⌜ number r ≡ n ⌝ }
 {
-    n.to_le_bytes()
+    u128::to_le_bytes(n)
 }

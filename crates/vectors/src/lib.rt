@@ -1,0 +1,5 @@
+// Examples that run: each module holds the tests of one part, through its public calls.
+#[cfg(test)]
+mod block;
+#[cfg(test)]
+mod text;
