@@ -1,0 +1,5 @@
+pub mod Pieces
+pub mod Rows
+pub mod Modes
+pub mod Outcome
+pub mod Laws
