@@ -1,5 +1,6 @@
 pub mod Pieces
 pub mod Rows
 pub mod Loops
+pub mod Mixes
 pub mod Undoing
 pub mod Laws

@@ -2,7 +2,7 @@
 use mathlib.Core.Path.{_≡_, refl, sym, ap, ap₂, _∙_}
 use mathlib.Core.List.{List, [], _∷_, _++_}
 use mathlib.Core.Logic.{_⊎_, inl, inr, ⊎-elim}
-use Prim.Native.Nat.{ℕ, _<_, _≤_}
+use Prim.Native.Nat.{ℕ, _-_, _<_, _≤_}
 use native.Mathlib.Omega.{arith}
 use lib.ListN.{length, take, drop}
 use Rattle.std.proofs.shelf.Lists.{append-nil, length-drop, length-take-le}
@@ -47,6 +47,15 @@ steal-end M kept x lo hi =
     ∙ ap (λ ps. glue (stolen M kept (take 16 x) ps)) (pieces-one q (omega arith) (omega arith))
     ∙ ap glue (stolen-short M kept (take 16 x) q [] (omega arith))
     ∙ ap (λ l. M .full kept (take 16 x) q ++ l) (append-nil _)
+
+-- The same as the machines write it: `full`, and as much of `last` as there is room for.
+pub steal-written : (M : Steal) (kept x full last out : List ℕ) (room : ℕ) → 16 < length x → length x < 32 → room ≡ length x
+    → full ≡ M .full kept (take 16 x) (drop 16 x) → take (length (drop 16 x)) last ≡ M .last kept (take 16 x) (drop 16 x)
+    → out ≡ full ++ take (room - 16) last → out ≡ glue (stealing M kept (pieces x))
+steal-written M kept x full last out room lo hi fits full-is last-is put =
+    put ∙ ap₂ (λ a n. a ++ take n last) full-is (ap (λ n. n - 16) fits ∙ sym (length-drop 16 x))
+    ∙ ap (λ b. M .full kept (take 16 x) (drop 16 x) ++ b) last-is
+    ∙ sym (steal-end M kept x lo hi)
 
 module _ (M : Stream) (kept : List ℕ) where
   pub stream-turn : (p r after : List ℕ) → length p ≡ 16 → r ≡ M .turn kept p → after ≡ M .next kept p → (x : List ℕ)

@@ -41,6 +41,22 @@ pub(crate) trait Mode {
         ensures same { λ _. ⌜ B·Block .meaning (now (block .exit)) ≡ B·Block .meaning (now (block .entry)) ⌝ };
 }
 
+// The number of octets to write, or the first rule that forbids it.
+pub(crate) fn admit(least: usize, size: usize, room: usize) -> Result<usize, Refusal>
+    ensures { λ r. ⌜ r ≡ modeAnswer least size room ⌝ }
+{
+    if size > LONGEST {
+        return Err(Refusal::LongMessage);
+    }
+    if size < least {
+        return Err(Refusal::ShortMessage);
+    }
+    if room < size {
+        return Err(Refusal::ShortOutput);
+    }
+    Ok(size)
+}
+
 // Puts a message through a mode, or says what forbids it.
 pub(crate) fn apply<T: Mode, B: Block>(
     mode: &mut T,
@@ -52,16 +68,7 @@ pub(crate) fn apply<T: Mode, B: Block>(
     ensures text { λ r. ⌜ now (out .exit) ≡ written r (T·Mode .makes (now (mode .entry)) (B·Block .meaning (now (block .entry))) (now (message .entry))) (now (out .entry)) ⌝ }
     ensures same { λ _. ⌜ B·Block .meaning (now (block .exit)) ≡ B·Block .meaning (now (block .entry)) ⌝ }
 {
-    let n = message.len();
-    if n > LONGEST {
-        return Err(Refusal::LongMessage);
-    }
-    if n < T::fewest() {
-        return Err(Refusal::ShortMessage);
-    }
-    if out.len() < n {
-        return Err(Refusal::ShortOutput);
-    }
+    let n = admit(T::fewest(), message.len(), out.len())?;
     run(mode, block, message, &mut out[0..n]);
     Ok(n)
 }
@@ -81,7 +88,7 @@ fn whole(n: usize, least: usize) -> usize
 }
 
 // Puts a text that a mode takes through it, into an output of the same length.
-fn run<T: Mode, B: Block>(mode: &mut T, block: &mut B, text: &[u8], out: &mut [u8])
+pub(crate) fn run<T: Mode, B: Block>(mode: &mut T, block: &mut B, text: &[u8], out: &mut [u8])
     requires { ⌜ (T·Mode .least ≤ length (now text)) × (length (now out) ≡ length (now text)) ⌝ }
     ensures text { λ _. ⌜ now (out .exit) ≡ T·Mode .makes (now (mode .entry)) (B·Block .meaning (now (block .entry))) (now (text .entry)) ⌝ }
     ensures same { λ _. ⌜ B·Block .meaning (now (block .exit)) ≡ B·Block .meaning (now (block .entry)) ⌝ }

@@ -3,6 +3,7 @@ ghost use mathlib.Core.Path.{_≡_};
 ghost use mathlib.Core.List.{_++_};
 ghost use Prim.Native.Nat.{ℕ, _+_, _-_, _<_, _≤_};
 ghost use lib.ListN.{length, take, drop};
+ghost use Rattle.blocks.specs.Octets.{xorEach};
 
 // The sixteen octets of `text` from `at` on.
 pub(crate) fn load(text: &[u8], at: usize) -> [u8; 16]
@@ -49,4 +50,14 @@ pub(crate) fn store_two(out: &mut [u8], full: [u8; 16], last: [u8; 16])
     let n = out.len() - 16;
     store(out, 0, full);
     store_part(out, 16, last, n);
+}
+
+// Mixes the octets of `text`, at most sixteen, with the first ones of `key`.
+pub(crate) fn mix(text: &[u8], key: [u8; 16], out: &mut [u8])
+    requires { ⌜ (length (now text) ≤ 16) × (length (now out) ≡ length (now text)) ⌝ }
+    ensures { λ _. ⌜ now (out .exit) ≡ xorEach (now (text .entry)) key ⌝ }
+{
+    for j in 0..text.len() {
+        out[j] = text[j] ^ key[j];
+    }
 }
