@@ -1,0 +1,12 @@
+use Rattle.modes.proofs.Laws.{cfb-decrypt-undoes, cfb-apart}
+use Rattle.modes.proofs.cfb.cfb_encrypt.Needs as need
+
+pub returns : need.returns
+returns g c =
+    record {
+      answer = c .apply .ensures .answer;
+      text = c .apply .ensures .text;
+      same = c .apply .ensures .same;
+      undone = cfb-decrypt-undoes;
+      apart = cfb-apart;
+    }

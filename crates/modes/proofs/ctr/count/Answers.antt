@@ -1,0 +1,4 @@
+use Rattle.modes.proofs.ctr.count.Needs as need
+
+pub returns : need.returns
+returns c = cc

@@ -1,0 +1,13 @@
+use borrow.Author.Needs.{needs}
+use mathlib.Core.Path.{refl}
+use mathlib.Core.List.{[]}
+use Rattle.modes.specs.Modes.{ecbRow}
+use Rattle.modes.proofs.Rows.{steal-turn}
+use Rattle.modes.proofs.ecb.DecryptionMode.turn.Needs as need
+
+pub returns : need.returns
+returns g c =
+    record {
+      answer = steal-turn (ecbRow (g .B·Block .meaning (c .args .block .now) .preimage)) [] (c .args .p) (c .backward .result) [] (search needs) (c .backward .ensures .answer) refl;
+      same = c .backward .ensures .same;
+    }

@@ -1,0 +1,11 @@
+use Rattle.modes.proofs.Laws.{ecb-encrypt-undoes}
+use Rattle.modes.proofs.ecb.ecb_decrypt.Needs as need
+
+pub returns : need.returns
+returns g c =
+    record {
+      answer = c .apply .ensures .answer;
+      text = c .apply .ensures .text;
+      same = c .apply .ensures .same;
+      undone = ecb-encrypt-undoes;
+    }

@@ -1,0 +1,63 @@
+-- What holds of the modes over every block.
+use mathlib.Core.Path.{_≡_}
+use mathlib.Core.List.{List}
+use Prim.Native.Nat.{ℕ, _≤_}
+use lib.ListN.{length}
+use Rattle.blocks.specs.Octets.{Octets, Sixteen}
+use Rattle.blocks.specs.Steps.{Step, Reversible}
+use Rattle.modes.specs.Modes.{ecb, cbcEncrypt, cbcDecrypt, cfbEncrypt, cfbDecrypt, ctr}
+
+-- Reading undoes writing: every message of octets, at least so long, comes back.
+abbrev pub Undoes : ℕ → (List ℕ → List ℕ) → (List ℕ → List ℕ) → Type 0
+Undoes least read write = (x : List ℕ) → Octets x → least ≤ length x → read (write x) ≡ x
+
+-- No two messages of one length share a text.
+abbrev pub Apart : ℕ → (List ℕ → List ℕ) → Type 0
+Apart least write =
+    (x y : List ℕ) → Octets x → Octets y → least ≤ length x → length x ≡ length y → write x ≡ write y → x ≡ y
+
+-- f maps sixteen octets to sixteen octets.
+abbrev pub Lands : (List ℕ → List ℕ) → Type 0
+Lands f = (p : List ℕ) → Sixteen p → Sixteen (f p)
+
+-- ECB, over every reversible meaning.
+abbrev pub EcbDecryptUndoes : Type 0
+EcbDecryptUndoes = (m : Step) → Reversible m → Undoes 16 (ecb (m .preimage)) (ecb (m .image))
+
+abbrev pub EcbEncryptUndoes : Type 0
+EcbEncryptUndoes = (m : Step) → Reversible m → Undoes 16 (ecb (m .image)) (ecb (m .preimage))
+
+abbrev pub EcbApart : Type 0
+EcbApart = (m : Step) → Reversible m → Apart 16 (ecb (m .image))
+
+-- CBC, over every reversible meaning and every start.
+abbrev pub CbcDecryptUndoes : Type 0
+CbcDecryptUndoes =
+    (m : Step) → Reversible m → (start : List ℕ) → Sixteen start
+    → Undoes 16 (cbcDecrypt (m .preimage) start) (cbcEncrypt (m .image) start)
+
+abbrev pub CbcEncryptUndoes : Type 0
+CbcEncryptUndoes =
+    (m : Step) → Reversible m → (start : List ℕ) → Sixteen start
+    → Undoes 16 (cbcEncrypt (m .image) start) (cbcDecrypt (m .preimage) start)
+
+abbrev pub CbcApart : Type 0
+CbcApart = (m : Step) → Reversible m → (start : List ℕ) → Sixteen start → Apart 16 (cbcEncrypt (m .image) start)
+
+-- CFB and CTR never step back: over every function on sixteen octets and every start.
+abbrev pub CfbDecryptUndoes : Type 0
+CfbDecryptUndoes =
+    (f : List ℕ → List ℕ) → Lands f → (start : List ℕ) → Sixteen start → Undoes 0 (cfbDecrypt f start) (cfbEncrypt f start)
+
+abbrev pub CfbEncryptUndoes : Type 0
+CfbEncryptUndoes =
+    (f : List ℕ → List ℕ) → Lands f → (start : List ℕ) → Sixteen start → Undoes 0 (cfbEncrypt f start) (cfbDecrypt f start)
+
+abbrev pub CfbApart : Type 0
+CfbApart = (f : List ℕ → List ℕ) → Lands f → (start : List ℕ) → Sixteen start → Apart 0 (cfbEncrypt f start)
+
+abbrev pub CtrUndoes : Type 0
+CtrUndoes = (f : List ℕ → List ℕ) → Lands f → (start : List ℕ) → Sixteen start → Undoes 0 (ctr f start) (ctr f start)
+
+abbrev pub CtrApart : Type 0
+CtrApart = (f : List ℕ → List ℕ) → Lands f → (start : List ℕ) → Sixteen start → Apart 0 (ctr f start)

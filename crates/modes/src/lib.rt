@@ -1,0 +1,8 @@
+// The modes over any block, ECB, CBC, CFB and CTR, and the checksum.
+pub mod cbc;
+pub mod cfb;
+pub mod checksum;
+pub mod ctr;
+pub mod ecb;
+mod machine;
+mod parts;

@@ -1,0 +1,107 @@
+// A mode as a small machine, and the one loop that drives every machine through a text.
+ghost use mathlib.Core.Path.{_≡_};
+ghost use mathlib.Core.List.{List, [], _++_};
+ghost use mathlib.Core.Logic.{_⊎_};
+ghost use Prim.Native.Nat.{ℕ, _+_, _-_, _%_, _<_, _≤_};
+ghost use lib.ListN.{length, take, drop};
+ghost use Rattle.blocks.specs.Steps.{Step};
+ghost use Rattle.modes.specs.Outcome.{modeAnswer, written, Follows};
+use crate::parts::load;
+use crate::parts::store;
+use blocks::Block;
+use blocks::Refusal;
+
+// The most octets of a message.
+pub(crate) const LONGEST: usize = 65_536;
+
+// A mode, and what it keeps from piece to piece.
+pub(crate) trait Mode {
+    // The fewest octets that it takes.
+    ghost least: { ℕ };
+
+    // What it makes of a text, over a block's meaning.
+    ghost makes: { Self → Step → List ℕ → List ℕ };
+
+    law sized: { (least ≡ 0) ⊎ (least ≡ 16) };
+
+    law none: { (s : Self) (m : Step) → makes s m [] ≡ [] };
+
+    fn fewest() -> usize
+        ensures { λ r. ⌜ r ≡ least ⌝ };
+
+    // Takes the next piece of a text, a whole one.
+    fn turn<B: Block>(&mut self, block: &mut B, p: [u8; 16]) -> [u8; 16]
+        ensures answer { λ r. ⌜ ((x : List ℕ) → Follows least x → makes (now (self .entry)) (B·Block .meaning (now (block .entry))) (p ++ x) ≡ r ++ makes (now (self .exit)) (B·Block .meaning (now (block .entry))) x) ⌝ }
+        ensures same { λ _. ⌜ B·Block .meaning (now (block .exit)) ≡ B·Block .meaning (now (block .entry)) ⌝ };
+
+    // Takes the end of a text, whose last piece is short.
+    fn finish<B: Block>(&mut self, block: &mut B, rest: &[u8], out: &mut [u8])
+        requires { ⌜ (least < length (now rest)) × (length (now rest) < least + 16) × (length (now out) ≡ length (now rest)) ⌝ }
+        ensures text { λ _. ⌜ now (out .exit) ≡ makes (now (self .entry)) (B·Block .meaning (now (block .entry))) (now (rest .entry)) ⌝ }
+        ensures same { λ _. ⌜ B·Block .meaning (now (block .exit)) ≡ B·Block .meaning (now (block .entry)) ⌝ };
+}
+
+// The number of octets to write, or the first rule that forbids it.
+pub(crate) fn admit(least: usize, size: usize, room: usize) -> Result<usize, Refusal>
+    ensures { λ r. ⌜ r ≡ modeAnswer least size room ⌝ }
+{
+    if size > LONGEST {
+        return Err(Refusal::LongMessage);
+    }
+    if size < least {
+        return Err(Refusal::ShortMessage);
+    }
+    if room < size {
+        return Err(Refusal::ShortOutput);
+    }
+    Ok(size)
+}
+
+// Puts a message through a mode, or says what forbids it.
+pub(crate) fn apply<T: Mode, B: Block>(
+    mode: &mut T,
+    block: &mut B,
+    message: &[u8],
+    out: &mut [u8],
+) -> Result<usize, Refusal>
+    ensures answer { λ r. ⌜ r ≡ modeAnswer (T·Mode .least) (length (now (message .entry))) (length (now (out .entry))) ⌝ }
+    ensures text { λ r. ⌜ now (out .exit) ≡ written r (T·Mode .makes (now (mode .entry)) (B·Block .meaning (now (block .entry))) (now (message .entry))) (now (out .entry)) ⌝ }
+    ensures same { λ _. ⌜ B·Block .meaning (now (block .exit)) ≡ B·Block .meaning (now (block .entry)) ⌝ }
+{
+    let n = admit(T::fewest(), message.len(), out.len())?;
+    run(mode, block, message, &mut out[0..n]);
+    Ok(n)
+}
+
+// How many octets of a text of `n` go through a mode in whole pieces, before its end with the short one.
+fn whole(n: usize, least: usize) -> usize
+    requires { ⌜ (least ≤ n) × ((least ≡ 0) ⊎ (least ≡ 16)) ⌝ }
+    ensures pieces { λ r. ⌜ r % 16 ≡ 0 ⌝ }
+    ensures part { λ r. ⌜ r ≤ n ⌝ }
+    ensures rest { λ r. ⌜ (r ≡ n) ⊎ ((least < n - r) × (n - r < least + 16)) ⌝ }
+{
+    if n % 16 == 0 {
+        n
+    } else {
+        (n - least) / 16 * 16
+    }
+}
+
+// Puts a text that a mode takes through it, into an output of the same length.
+pub(crate) fn run<T: Mode, B: Block>(mode: &mut T, block: &mut B, text: &[u8], out: &mut [u8])
+    requires { ⌜ (T·Mode .least ≤ length (now text)) × (length (now out) ≡ length (now text)) ⌝ }
+    ensures text { λ _. ⌜ now (out .exit) ≡ T·Mode .makes (now (mode .entry)) (B·Block .meaning (now (block .entry))) (now (text .entry)) ⌝ }
+    ensures same { λ _. ⌜ B·Block .meaning (now (block .exit)) ≡ B·Block .meaning (now (block .entry)) ⌝ }
+{
+    let n = text.len();
+    let end = whole(n, T::fewest());
+    let mut at = 0;
+    while at < end {
+        let c = mode.turn(block, load(text, at));
+        store(out, at, c);
+        at += 16;
+    }
+    if end < n {
+        mode.finish(block, &text[end..n], &mut out[end..n]);
+    }
+}
