@@ -7,7 +7,7 @@ use native.Mathlib.Nat.{pow-suc}
 use lib.Dec.{lit<}
 use lib.ListN.{length, getD}
 use Rattle.std.proofs.shelf.Bits.{shr-shr}
-use Rattle.blocks.specs.Octets.{Octets}
+use Rattle.blocks.specs.Octets.{Octets, part}
 use Rattle.blocks.specs.Fields.{field, number}
 
 pub length-field : (w n : ℕ) → length (field w n) ≡ w
@@ -35,6 +35,18 @@ field-number (b ∷ bs) o =
     let h : b < 256 = o 0 in
     ap₂ _∷_ (omega arith) (ap (field (length bs)) (omega arith) ∙ field-number bs (λ k. o (suc k)))
 
+pub number-lt : (bs : List ℕ) → Octets bs → number bs < 256 ^ length bs
+number-lt [] o = lit< tt
+number-lt (b ∷ bs) o =
+    let h : b < 256 = o 0 in
+    let i : number bs < 256 ^ length bs = number-lt bs (λ k. o (suc k)) in
+    omega (arith, pow-suc 256 (length bs))
+
+pub octets-part : (i n : ℕ) (x : List ℕ) → Octets x → Octets (part i n x)
+octets-part i zero x o k = lit< tt
+octets-part i (suc n) x o zero = o i
+octets-part i (suc n) x o (suc k) = octets-part (suc i) n x o k
+
 -- The same at a width that is the length.
 pub field-number-at : (w : ℕ) (bs : List ℕ) → length bs ≡ w → Octets bs → field w (number bs) ≡ bs
 field-number-at w bs e o = subst (λ n. field n (number bs) ≡ bs) e (field-number bs o)
@@ -49,24 +61,20 @@ field-shifted zero k n = refl
 field-shifted (suc w) k n =
     ap (λ l. (n / 2 ^ k % 256) ∷ l) (ap (field w) (shr-shr n k 8) ∙ field-shifted w (k + 8) n)
 
--- A list by its places from i on.
-abbrev pub places : ℕ → ℕ → List ℕ → List ℕ
-places i zero x = []
-places i (suc n) x = getD x i 0 ∷ places (suc i) n x
+-- A list by its parts.
+part-later : (i n y : ℕ) (ys : List ℕ) → part (suc i) n (y ∷ ys) ≡ part i n ys
+part-later i zero y ys = refl
+part-later i (suc n) y ys = ap (λ l. getD ys i 0 ∷ l) (part-later (suc i) n y ys)
 
-places-later : (i n y : ℕ) (ys : List ℕ) → places (suc i) n (y ∷ ys) ≡ places i n ys
-places-later i zero y ys = refl
-places-later i (suc n) y ys = ap (λ l. getD ys i 0 ∷ l) (places-later (suc i) n y ys)
+part-all : (x : List ℕ) → part 0 (length x) x ≡ x
+part-all [] = refl
+part-all (y ∷ ys) = ap (λ l. y ∷ l) (part-later 0 (length ys) y ys ∙ part-all ys)
 
-places-all : (x : List ℕ) → places 0 (length x) x ≡ x
-places-all [] = refl
-places-all (y ∷ ys) = ap (λ l. y ∷ l) (places-later 0 (length ys) y ys ∙ places-all ys)
+pub listed : (n : ℕ) (x : List ℕ) → length x ≡ n → part 0 n x ≡ x
+listed n x e = subst (λ m. part 0 m x ≡ x) e (part-all x)
 
-pub listed : (n : ℕ) (x : List ℕ) → length x ≡ n → places 0 n x ≡ x
-listed n x e = subst (λ m. places 0 m x ≡ x) e (places-all x)
-
--- A number that is the sum of its octets' places reads them.
-module _ (w r : ℕ) (x : List ℕ) (long : length x ≡ w) (octet : Octets x) (sum : r ≡ number (places 0 w x)) where
+-- A number that is the sum of its octets' part reads them.
+module _ (w r : ℕ) (x : List ℕ) (long : length x ≡ w) (octet : Octets x) (sum : r ≡ number (part 0 w x)) where
   pub reads : r ≡ number x
   reads = sum ∙ ap number (listed w x long)
 

@@ -1,7 +1,7 @@
 -- Octets: numbers below 256, in lists.
 use mathlib.Core.Path.{_≡_}
 use mathlib.Core.List.{List, [], _∷_}
-use Prim.Native.Nat.{ℕ, _<_}
+use Prim.Native.Nat.{ℕ, zero, suc, _<_}
 use lib.Bits.{bitXor}
 use lib.ListN.{length, getD}
 
@@ -18,3 +18,8 @@ abbrev pub xorEach : List ℕ → List ℕ → List ℕ
 xorEach [] ys = []
 xorEach (x ∷ xs) [] = []
 xorEach (x ∷ xs) (y ∷ ys) = bitXor x y ∷ xorEach xs ys
+
+-- The n octets of x from place i on.
+abbrev pub part : ℕ → ℕ → List ℕ → List ℕ
+part i zero x = []
+part i (suc n) x = getD x i 0 ∷ part (suc i) n x

@@ -5,3 +5,4 @@ pub mod Mixes
 pub mod Sums
 pub mod Undoing
 pub mod Laws
+pub mod Eight
