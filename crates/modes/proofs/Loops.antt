@@ -7,11 +7,10 @@ use native.Mathlib.Omega.{arith}
 use lib.ListN.{length, take, drop}
 use Rattle.std.proofs.shelf.Lists.{append-assoc, append-nil, length-take-le, length-append, length-drop, take-at, take-all, drop-drop, drop-all, take-append-drop}
 use Rattle.std.proofs.shelf.Tests.{cases-lt}
-use Rattle.modes.specs.Outcome.{Follows}
 
 -- Past a whole piece before `end` there is nothing, or enough.
 pub follows : (x : List ℕ) (at end least : ℕ) → (least ≡ 0) ⊎ (least ≡ 16) → at % 16 ≡ 0 → end % 16 ≡ 0 → at ≤ end → end ≤ length x
-    → (end ≡ length x) ⊎ ((least < length x - end) × (length x - end < least + 16)) → Follows least (drop at x)
+    → (end ≡ length x) ⊎ ((least < length x - end) × (length x - end < least + 16)) → (drop at x ≡ []) ⊎ (least ≤ length (drop at x))
 follows x at end least sized a e le part rest =
     ⊎-elim
     (λ (h : at < length x).

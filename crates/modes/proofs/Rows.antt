@@ -9,7 +9,6 @@ use Rattle.std.proofs.shelf.Lists.{append-nil, length-drop, length-take-le}
 use Rattle.std.proofs.shelf.Tests.{cond-true, cond-false, eq-eqb, ne-eqb}
 use Rattle.modes.specs.Pieces.{pieces, glue}
 use Rattle.modes.specs.Rows.{Stream, streamed, Steal, stolen, stealing}
-use Rattle.modes.specs.Outcome.{Follows}
 use Rattle.modes.proofs.Pieces.{pieces-more, pieces-cons, pieces-one}
 
 module _ (M : Steal) (kept p q : List ℕ) (qs : List (List ℕ)) where
@@ -21,7 +20,7 @@ module _ (M : Steal) (kept p q : List ℕ) (qs : List (List ℕ)) where
 
 -- A whole piece p is answered by r, and what follows goes on from `after`.
 module _ (M : Steal) (kept p r after : List ℕ) (size : length p ≡ 16) (is : r ≡ M .turn kept p) (goes : after ≡ M .next kept p) where
-  pub steal-turn : (x : List ℕ) → Follows 16 x
+  pub steal-turn : (x : List ℕ) → (x ≡ []) ⊎ (16 ≤ length x)
       → glue (stealing M kept (pieces (p ++ x))) ≡ r ++ glue (stealing M after (pieces x))
   steal-turn x h =
       ap (λ ps. glue (stealing M kept ps)) (pieces-cons p x size)

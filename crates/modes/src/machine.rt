@@ -5,7 +5,7 @@ ghost use mathlib.Core.Logic.{_⊎_};
 ghost use Prim.Native.Nat.{ℕ, _+_, _-_, _%_, _<_, _≤_};
 ghost use lib.ListN.{length, take, drop};
 ghost use Rattle.blocks.specs.Steps.{Step};
-ghost use Rattle.modes.specs.Outcome.{modeAnswer, written, Follows};
+ghost use Rattle.modes.specs.Outcome.{modeAnswer, written};
 use crate::parts::load;
 use crate::parts::store;
 use blocks::Block;
@@ -29,9 +29,9 @@ pub(crate) trait Mode {
     fn fewest() -> usize
         ensures { λ r. ⌜ r ≡ least ⌝ };
 
-    // Takes the next piece of a text, a whole one.
+    // Takes the next piece of a text, a whole one: what follows is nothing, or again a text that the mode takes.
     fn turn<B: Block>(&mut self, block: &mut B, p: [u8; 16]) -> [u8; 16]
-        ensures answer { λ r. ⌜ ((x : List ℕ) → Follows least x → makes (now (self .entry)) (B·Block .meaning (now (block .entry))) (p ++ x) ≡ r ++ makes (now (self .exit)) (B·Block .meaning (now (block .entry))) x) ⌝ }
+        ensures answer { λ r. ⌜ ((x : List ℕ) → ((x ≡ []) ⊎ (least ≤ length x)) → makes (now (self .entry)) (B·Block .meaning (now (block .entry))) (p ++ x) ≡ r ++ makes (now (self .exit)) (B·Block .meaning (now (block .entry))) x) ⌝ }
         ensures same { λ _. ⌜ B·Block .meaning (now (block .exit)) ≡ B·Block .meaning (now (block .entry)) ⌝ };
 
     // Takes the end of a text, whose last piece is short.
