@@ -1,8 +1,11 @@
 // The modes and the checksum over the BelT block: worked examples, lengths and refusals.
 use belt::BeltBlock;
 use belt::cipher::BeltSteps;
+use blocks::BenchBlock;
 use blocks::Refusal;
+use blocks::answers::RefusalDebug;
 use blocks::answers::answer_number;
+use blocks::bench::BenchSteps;
 use modes::cbc::cbc_decrypt;
 use modes::cbc::cbc_encrypt;
 use modes::cfb::cfb_decrypt;
@@ -262,11 +265,17 @@ fn octets(text: [u128; 3]) -> [u8; 48] {
     x
 }
 
-fn belt(key: [u128; 2]) -> Result<BeltBlock, Refusal> {
+// The octets of a key in order.
+fn key_octets(key: [u128; 2]) -> [u8; 32] {
     let mut k = [0; 32];
     for j in 0..32 {
         k[j] = key[j / 16].to_be_bytes()[j % 16];
     }
+    k
+}
+
+fn belt(key: [u128; 2]) -> Result<BeltBlock, Refusal> {
+    let k = key_octets(key);
     BeltBlock::new(&k)
 }
 
@@ -327,4 +336,110 @@ fn checksums() -> Result<(), Fail> {
         u64::from_be_bytes(checksum(&mut block, &message)?),
         0x2DAB59771B4B16D0,
     )
+}
+
+const LENGTHS: [usize; 10] = [0, 1, 15, 16, 17, 31, 32, 33, 65_536, 65_537];
+
+fn sample() -> [u8; 65_537] {
+    let mut x = [0; 65_537];
+    for j in 0..65_537 {
+        x[j] = (j % 251) as u8;
+    }
+    x
+}
+
+// The number of the answer where there is room for the text.
+fn expected(call: Call, n: usize) -> u8 {
+    if n > 65_536 {
+        32
+    } else if n < call.least() {
+        33
+    } else {
+        0
+    }
+}
+
+// A message there and back, or the refusal that leaves the output as it was.
+fn there_and_back(call: Call, block: &mut BeltBlock, message: &[u8]) -> Result<(), Fail> {
+    let n = message.len();
+    let mut text = [85; 65_540];
+    let there = call.run(block, START_A, message, &mut text);
+    check_eq(answer_number(&there), expected(call, n))?;
+    let Ok(written) = there else {
+        return check(untouched(&text, 0));
+    };
+    check_eq(written, n)?;
+    check(untouched(&text, n))?;
+    let mut back = [85; 65_540];
+    check_eq(
+        call.undoing()
+            .run(block, START_A, front(&text, n), &mut back)?,
+        n,
+    )?;
+    check(agree(&back, message, n) && untouched(&back, n))
+}
+
+#[test]
+fn lengths() -> Result<(), Fail> {
+    let message = sample();
+    let mut block = belt(KEY_A)?;
+    for call in CALLS {
+        for n in LENGTHS {
+            there_and_back(call, &mut block, front(&message, n))?;
+        }
+    }
+    Ok(())
+}
+
+// A long message comes before a short one, and that before a short output; no refusal writes.
+fn refused(call: Call, block: &mut BeltBlock, message: &[u8]) -> Result<(), Fail> {
+    let mut out = [85; 47];
+    check_eq(
+        answer_number(&call.run(block, START_B, message, &mut out)),
+        32,
+    )?;
+    check_eq(
+        answer_number(&call.run(block, START_B, front(message, 48), &mut out)),
+        31,
+    )?;
+    check(untouched(&out, 0))?;
+    let mut small = [85; 14];
+    let number = if call.least() == 16 { 33 } else { 31 };
+    check_eq(
+        answer_number(&call.run(block, START_B, front(message, 15), &mut small)),
+        number,
+    )?;
+    check(untouched(&small, 0))
+}
+
+#[test]
+fn refusals() -> Result<(), Fail> {
+    let message = sample();
+    let mut block = belt(KEY_B)?;
+    for call in CALLS {
+        refused(call, &mut block, &message)?;
+    }
+    check_eq(answer_number(&checksum(&mut block, &message)), 32)?;
+    check_eq(
+        answer_number(&checksum(&mut block, front(&message, 65_536))),
+        0,
+    )?;
+    check_eq(answer_number(&checksum(&mut block, &[])), 0)
+}
+
+// Over the bench block without a mask, which only turns the octets round, the count is seen: its first octet is the least.
+#[test]
+fn counts() -> Result<(), Fail> {
+    let mut block = BenchBlock::new([0; 16]);
+    let mut out = [85; 16];
+    check_eq(
+        ctr_encrypt(&mut block, 0xFF_u128.to_be_bytes(), &[0; 16], &mut out)?,
+        16,
+    )?;
+    check_eq(u128::from_be_bytes(out), 0x0100)?;
+    check_eq(
+        ctr_encrypt(&mut block, u128::MAX.to_be_bytes(), &[0; 16], &mut out)?,
+        16,
+    )?;
+    check_eq(u128::from_be_bytes(out), 0)
 }
