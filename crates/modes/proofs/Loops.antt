@@ -7,20 +7,15 @@ use native.Mathlib.Omega.{arith}
 use lib.ListN.{length, take, drop}
 use Rattle.std.proofs.shelf.Lists.{append-assoc, append-nil, length-take-le, length-append, length-drop, take-at, take-all, drop-drop, drop-all, take-append-drop}
 use Rattle.std.proofs.shelf.Tests.{cases-lt}
-use Rattle.modes.specs.Outcome.{Follows}
 
 -- Past a whole piece before `end` there is nothing, or enough.
 pub follows : (x : List ℕ) (at end least : ℕ) → (least ≡ 0) ⊎ (least ≡ 16) → at % 16 ≡ 0 → end % 16 ≡ 0 → at ≤ end → end ≤ length x
-    → (end ≡ length x) ⊎ ((least < length x - end) × (length x - end < least + 16)) → Follows least (drop at x)
+    → (end ≡ length x) ⊎ (least ≤ length x - end) → (drop at x ≡ []) ⊎ (least ≤ length (drop at x))
 follows x at end least sized a e le part rest =
     ⊎-elim
     (λ (h : at < length x).
     let few : least ≤ 16 = ⊎-elim (λ (z : least ≡ 0). omega arith) (λ (z : least ≡ 16). omega arith) sized in
-    let l : least ≤ length x - at =
-    ⊎-elim
-    (λ (z : end ≡ length x). omega arith)
-    (λ (z : (least < length x - end) × (length x - end < least + 16)). omega arith)
-    rest in
+    let l : least ≤ length x - at = ⊎-elim (λ (z : end ≡ length x). omega arith) (λ (z : least ≤ length x - end). omega arith) rest in
     inr (omega (arith, length-drop at x)))
     (λ (h : length x ≤ at). inl (drop-all at x h))
     (cases-lt at (length x))

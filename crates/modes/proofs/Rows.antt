@@ -5,11 +5,10 @@ use mathlib.Core.Logic.{_⊎_, inl, inr, ⊎-elim}
 use Prim.Native.Nat.{ℕ, _-_, _<_, _≤_}
 use native.Mathlib.Omega.{arith}
 use lib.ListN.{length, take, drop}
-use Rattle.std.proofs.shelf.Lists.{append-nil, length-drop, length-take-le}
+use Rattle.std.proofs.shelf.Lists.{append-nil, length-append, length-drop, length-take-le}
 use Rattle.std.proofs.shelf.Tests.{cond-true, cond-false, eq-eqb, ne-eqb}
 use Rattle.modes.specs.Pieces.{pieces, glue}
 use Rattle.modes.specs.Rows.{Stream, streamed, Steal, stolen, stealing}
-use Rattle.modes.specs.Outcome.{Follows}
 use Rattle.modes.proofs.Pieces.{pieces-more, pieces-cons, pieces-one}
 
 module _ (M : Steal) (kept p q : List ℕ) (qs : List (List ℕ)) where
@@ -21,7 +20,7 @@ module _ (M : Steal) (kept p q : List ℕ) (qs : List (List ℕ)) where
 
 -- A whole piece p is answered by r, and what follows goes on from `after`.
 module _ (M : Steal) (kept p r after : List ℕ) (size : length p ≡ 16) (is : r ≡ M .turn kept p) (goes : after ≡ M .next kept p) where
-  pub steal-turn : (x : List ℕ) → Follows 16 x
+  pub steal-turn : (x : List ℕ) → (x ≡ []) ⊎ (16 ≤ length x)
       → glue (stealing M kept (pieces (p ++ x))) ≡ r ++ glue (stealing M after (pieces x))
   steal-turn x h =
       ap (λ ps. glue (stealing M kept ps)) (pieces-cons p x size)
@@ -36,6 +35,14 @@ module _ (M : Steal) (kept p r after : List ℕ) (size : length p ≡ 16) (is : 
       ∙ ap₂ (λ a b. a ++ glue (stealing M b (take 16 x ∷ pieces (drop 16 x)))) (sym is) (sym goes)
       ∙ ap (λ ps. r ++ glue (stealing M after ps)) (sym rest))
       h
+
+-- Two whole pieces.
+pub steal-turn-two : (M : Steal) (kept p q a b after : List ℕ) → length p ≡ 16 → length q ≡ 16 → a ≡ M .turn kept p → b ≡ M .turn (M .next kept p) q
+    → after ≡ M .next (M .next kept p) q → (x : List ℕ) → (x ≡ []) ⊎ (16 ≤ length x)
+    → glue (stealing M kept (pieces (p ++ (q ++ x)))) ≡ a ++ (b ++ glue (stealing M after (pieces x)))
+steal-turn-two M kept p q a b after sp sq a-is b-is goes x h =
+    steal-turn M kept p a (M .next kept p) sp a-is refl (q ++ x) (inr (omega (arith, length-append q x)))
+    ∙ ap (λ z. a ++ z) (steal-turn M (M .next kept p) q b after sq b-is goes x h)
 
 -- The end of a text, whose last piece is short.
 pub steal-end : (M : Steal) (kept x : List ℕ) → 16 < length x → length x < 32
@@ -63,6 +70,14 @@ module _ (M : Stream) (kept : List ℕ) where
   stream-turn p r after size is goes x =
       ap (λ ps. glue (streamed M kept ps)) (pieces-cons p x size)
       ∙ ap₂ (λ a b. a ++ glue (streamed M b (pieces x))) (sym is) (sym goes)
+
+  pub stream-turn-two : (p q a b after : List ℕ) → length p ≡ 16 → length q ≡ 16 → a ≡ M .turn kept p → b ≡ M .turn (M .next kept p) q
+      → after ≡ M .next (M .next kept p) q → (x : List ℕ)
+      → glue (streamed M kept (pieces (p ++ (q ++ x)))) ≡ a ++ (b ++ glue (streamed M after (pieces x)))
+  stream-turn-two p q a b after sp sq a-is b-is goes x =
+      ap (λ ps. glue (streamed M kept ps)) (pieces-cons p (q ++ x) sp ∙ ap (λ ps. p ∷ ps) (pieces-cons q x sq))
+      ∙ ap₂ (λ y z. y ++ (z ++ glue (streamed M (M .next (M .next kept p) q) (pieces x)))) (sym a-is) (sym b-is)
+      ∙ ap (λ k. a ++ (b ++ glue (streamed M k (pieces x)))) (sym goes)
 
   pub stream-end : (x : List ℕ) → 0 < length x → length x ≤ 16 → glue (streamed M kept (pieces x)) ≡ M .turn kept x
   stream-end x lo hi = ap (λ ps. glue (streamed M kept ps)) (pieces-one x lo hi) ∙ append-nil _

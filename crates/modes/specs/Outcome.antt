@@ -1,11 +1,9 @@
 -- What a mode's call answers, and what it leaves in the caller's output.
-use mathlib.Core.Path.{_≡_}
 use mathlib.Core.Bool.{cond}
-use mathlib.Core.List.{List, [], _++_}
-use mathlib.Core.Logic.{_⊎_}
-use Prim.Native.Nat.{ℕ, _≤_}
+use mathlib.Core.List.{List, _++_}
+use Prim.Native.Nat.{ℕ}
 use lib.Dec.{leb}
-use lib.ListN.{length, drop}
+use lib.ListN.{drop}
 use Rattle.std.specs.declared.result.Result.{Result}
 use Rattle.std.specs.declared.result.Result.the-variants.{Ok, Err}
 use Rattle.blocks.specs.declared.answers.Refusal.{Refusal}
@@ -29,7 +27,3 @@ modeAnswer least size room =
 abbrev pub written : Result ℕ Refusal → List ℕ → List ℕ → List ℕ
 written (Ok n) text out = text ++ drop n out
 written (Err e) text out = out
-
--- What follows a piece is nothing, or again a text that the mode takes.
-abbrev pub Follows : ℕ → List ℕ → Type 0
-Follows least x = (x ≡ []) ⊎ (least ≤ length x)

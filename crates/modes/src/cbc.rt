@@ -62,6 +62,18 @@ impl Mode for Decryption as DecryptionMode {
         x
     }
 
+    fn turn_two<B: Block>(
+        &mut self,
+        block: &mut B,
+        p: [u8; 16],
+        q: [u8; 16],
+    ) -> ([u8; 16], [u8; 16]) {
+        let (a, b) = block.backward_two(p, q);
+        let x = xor(a, self.before);
+        self.before = q;
+        (x, xor(b, p))
+    }
+
     fn finish<B: Block>(&mut self, block: &mut B, rest: &[u8], out: &mut [u8]) {
         let w = xor(block.backward(load(rest, 0)), filled(rest, [0; 16]));
         let d = xor(block.backward(filled(rest, w)), self.before);

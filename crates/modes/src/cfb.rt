@@ -58,6 +58,17 @@ impl Mode for Decryption as DecryptionMode {
         x
     }
 
+    fn turn_two<B: Block>(
+        &mut self,
+        block: &mut B,
+        p: [u8; 16],
+        q: [u8; 16],
+    ) -> ([u8; 16], [u8; 16]) {
+        let (a, b) = block.forward_two(self.before, p);
+        self.before = q;
+        (xor(p, a), xor(q, b))
+    }
+
     fn finish<B: Block>(&mut self, block: &mut B, rest: &[u8], out: &mut [u8]) {
         mix(rest, block.forward(self.before), out);
     }

@@ -45,6 +45,19 @@ impl Mode for Counter as CounterMode {
         xor(p, block.forward(s))
     }
 
+    fn turn_two<B: Block>(
+        &mut self,
+        block: &mut B,
+        p: [u8; 16],
+        q: [u8; 16],
+    ) -> ([u8; 16], [u8; 16]) {
+        let s = count(self.at);
+        let t = count(s);
+        let (a, b) = block.forward_two(s, t);
+        self.at = t;
+        (xor(p, a), xor(q, b))
+    }
+
     fn finish<B: Block>(&mut self, block: &mut B, rest: &[u8], out: &mut [u8]) {
         mix(rest, block.forward(count(self.at)), out);
     }

@@ -28,6 +28,15 @@ impl Mode for Encryption as EncryptionMode {
         block.forward(p)
     }
 
+    fn turn_two<B: Block>(
+        &mut self,
+        block: &mut B,
+        p: [u8; 16],
+        q: [u8; 16],
+    ) -> ([u8; 16], [u8; 16]) {
+        block.forward_two(p, q)
+    }
+
     fn finish<B: Block>(&mut self, block: &mut B, rest: &[u8], out: &mut [u8]) {
         let c = block.forward(load(rest, 0));
         let d = block.forward(filled(rest, c));
@@ -49,6 +58,15 @@ impl Mode for Decryption as DecryptionMode {
 
     fn turn<B: Block>(&mut self, block: &mut B, p: [u8; 16]) -> [u8; 16] {
         block.backward(p)
+    }
+
+    fn turn_two<B: Block>(
+        &mut self,
+        block: &mut B,
+        p: [u8; 16],
+        q: [u8; 16],
+    ) -> ([u8; 16], [u8; 16]) {
+        block.backward_two(p, q)
     }
 
     fn finish<B: Block>(&mut self, block: &mut B, rest: &[u8], out: &mut [u8]) {

@@ -5,7 +5,7 @@ ghost use mathlib.Core.Logic.{_⊎_};
 ghost use Prim.Native.Nat.{ℕ, _+_, _-_, _%_, _<_, _≤_};
 ghost use lib.ListN.{length, take, drop};
 ghost use Rattle.blocks.specs.Steps.{Step};
-ghost use Rattle.modes.specs.Outcome.{modeAnswer, written, Follows};
+ghost use Rattle.modes.specs.Outcome.{modeAnswer, written};
 use crate::parts::load;
 use crate::parts::store;
 use blocks::Block;
@@ -29,10 +29,25 @@ pub(crate) trait Mode {
     fn fewest() -> usize
         ensures { λ r. ⌜ r ≡ least ⌝ };
 
-    // Takes the next piece of a text, a whole one.
+    // Takes the next piece of a text, a whole one: what follows is nothing, or again a text that the mode takes.
     fn turn<B: Block>(&mut self, block: &mut B, p: [u8; 16]) -> [u8; 16]
-        ensures answer { λ r. ⌜ ((x : List ℕ) → Follows least x → makes (now (self .entry)) (B·Block .meaning (now (block .entry))) (p ++ x) ≡ r ++ makes (now (self .exit)) (B·Block .meaning (now (block .entry))) x) ⌝ }
+        ensures answer { λ r. ⌜ ((x : List ℕ) → ((x ≡ []) ⊎ (least ≤ length x)) → makes (now (self .entry)) (B·Block .meaning (now (block .entry))) (p ++ x) ≡ r ++ makes (now (self .exit)) (B·Block .meaning (now (block .entry))) x) ⌝ }
         ensures same { λ _. ⌜ B·Block .meaning (now (block .exit)) ≡ B·Block .meaning (now (block .entry)) ⌝ };
+
+    // Takes the next two pieces; a mode whose pieces do not wait for each other writes its own.
+    fn turn_two<B: Block>(
+        &mut self,
+        block: &mut B,
+        p: [u8; 16],
+        q: [u8; 16],
+    ) -> ([u8; 16], [u8; 16])
+        ensures answer { λ r. ⌜ ((x : List ℕ) → ((x ≡ []) ⊎ (least ≤ length x)) → makes (now (self .entry)) (B·Block .meaning (now (block .entry))) (p ++ (q ++ x)) ≡ r .0 ++ (r .1 ++ makes (now (self .exit)) (B·Block .meaning (now (block .entry))) x)) ⌝ }
+        ensures same { λ _. ⌜ B·Block .meaning (now (block .exit)) ≡ B·Block .meaning (now (block .entry)) ⌝ }
+    {
+        let a = self.turn(block, p);
+        let b = self.turn(block, q);
+        (a, b)
+    }
 
     // Takes the end of a text, whose last piece is short.
     fn finish<B: Block>(&mut self, block: &mut B, rest: &[u8], out: &mut [u8])
@@ -95,13 +110,33 @@ pub(crate) fn run<T: Mode, B: Block>(mode: &mut T, block: &mut B, text: &[u8], o
 {
     let n = text.len();
     let end = whole(n, T::fewest());
-    let mut at = 0;
-    while at < end {
-        let c = mode.turn(block, load(text, at));
-        store(out, at, c);
-        at += 16;
-    }
+    run_whole(mode, block, text, end, out);
     if end < n {
         mode.finish(block, &text[end..n], &mut out[end..n]);
+    }
+}
+
+// Puts the whole pieces of a text before `end` through a mode, two at a time.
+fn run_whole<T: Mode, B: Block>(
+    mode: &mut T,
+    block: &mut B,
+    text: &[u8],
+    end: usize,
+    out: &mut [u8],
+)
+    requires { ⌜ (end % 16 ≡ 0) × (end ≤ length (now text)) × ((end ≡ length (now text)) ⊎ (T·Mode .least ≤ length (now text) - end)) × (length (now out) ≡ length (now text)) ⌝ }
+    ensures text { λ _. ⌜ take end (now (out .exit)) ++ T·Mode .makes (now (mode .exit)) (B·Block .meaning (now (block .entry))) (drop end (now (text .entry))) ≡ T·Mode .makes (now (mode .entry)) (B·Block .meaning (now (block .entry))) (now (text .entry)) ⌝ }
+    ensures same { λ _. ⌜ B·Block .meaning (now (block .exit)) ≡ B·Block .meaning (now (block .entry)) ⌝ }
+{
+    let mut at = 0;
+    while end - at >= 32 {
+        let (c, d) = mode.turn_two(block, load(text, at), load(text, at + 16));
+        store(out, at, c);
+        store(out, at + 16, d);
+        at += 32;
+    }
+    if at < end {
+        let c = mode.turn(block, load(text, at));
+        store(out, at, c);
     }
 }

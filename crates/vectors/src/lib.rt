@@ -2,4 +2,8 @@
 #[cfg(test)]
 mod block;
 #[cfg(test)]
+mod modes;
+#[cfg(test)]
+mod tags;
+#[cfg(test)]
 mod text;

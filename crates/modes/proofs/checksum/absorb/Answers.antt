@@ -1,7 +1,8 @@
 use borrow.Author.Needs.{needs}
 use native.Mathlib.Omega.{arith}
 use mathlib.Core.Path.{_≡_, sym, ap, ap₂, _∙_}
-use Prim.Native.Nat.{_≤_}
+use mathlib.Core.List.{List}
+use Prim.Native.Nat.{ℕ, _≤_}
 use lib.ListN.{length, take, drop, replicate}
 use Rattle.std.proofs.shelf.Lists.{length-drop, take-rest}
 use Rattle.blocks.specs.Octets.{xorEach}
@@ -29,7 +30,7 @@ returns g c =
     let m₁ = g .B·Block .meaning (c .forward-r .last .self) in
     let x = c .args .message .now in
     let r = c .forward-r .result in
-    let zeros = replicate 16 0 in
+    let zeros : List ℕ = replicate 16 0 in
     let last = drop (c .loop-at .at) x in
     let small : length last ≤ 16 = omega (arith, length-drop (c .loop-at .at) x) in
     let state : c .close .result ≡ absorbed (m₁ .image) r zeros (take 16 x) (pieces (drop 16 x)) =

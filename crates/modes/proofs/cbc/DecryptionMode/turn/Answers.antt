@@ -7,5 +7,5 @@ pub returns : need.returns
 returns g c =
     record {
       answer = steal-turn (cbcBack (g .B·Block .meaning (c .args .block .now) .preimage)) (c .args .self .now .before) (c .args .p) _ _ (search needs) (cc) (cc);
-      same = c .backward .ensures .same;
+      same = cc;
     }

@@ -7,5 +7,5 @@ pub returns : need.returns
 returns g c =
     record {
       answer = steal-turn (cbcForth (g .B·Block .meaning (c .args .block .now) .image)) (c .args .self .now .before) (c .args .p) _ _ (search needs) (cc) (cc);
-      same = c .forward-c .ensures .same;
+      same = cc;
     }

@@ -7,5 +7,5 @@ pub returns : need.returns
 returns g c =
     record {
       answer = λ x h. stream-turn (cfbForth (g .B·Block .meaning (c .args .block .now) .image)) (c .args .self .now .before) (c .args .p) _ _ (search needs) (cc) (cc) x;
-      same = c .forward .ensures .same;
+      same = cc;
     }

@@ -7,5 +7,5 @@ pub returns : need.returns
 returns g c =
     record {
       answer = λ x h. stream-turn (ctrRow (g .B·Block .meaning (c .args .block .now) .image)) (c .args .self .now .at) (c .args .p) _ _ (search needs) (cc) (cc) x;
-      same = c .forward .ensures .same;
+      same = cc;
     }

@@ -8,6 +8,6 @@ use Rattle.modes.proofs.ecb.DecryptionMode.turn.Needs as need
 pub returns : need.returns
 returns g c =
     record {
-      answer = steal-turn (ecbRow (g .B·Block .meaning (c .args .block .now) .preimage)) [] (c .args .p) (c .backward .result) [] (search needs) (c .backward .ensures .answer) refl;
-      same = c .backward .ensures .same;
+      answer = steal-turn (ecbRow (g .B·Block .meaning (c .args .block .now) .preimage)) [] (c .args .p) _ [] (search needs) (cc) refl;
+      same = cc;
     }

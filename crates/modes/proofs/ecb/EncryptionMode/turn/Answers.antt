@@ -8,6 +8,6 @@ use Rattle.modes.proofs.ecb.EncryptionMode.turn.Needs as need
 pub returns : need.returns
 returns g c =
     record {
-      answer = steal-turn (ecbRow (g .B·Block .meaning (c .args .block .now) .image)) [] (c .args .p) (c .forward .result) [] (search needs) (c .forward .ensures .answer) refl;
-      same = c .forward .ensures .same;
+      answer = steal-turn (ecbRow (g .B·Block .meaning (c .args .block .now) .image)) [] (c .args .p) _ [] (search needs) (cc) refl;
+      same = cc;
     }

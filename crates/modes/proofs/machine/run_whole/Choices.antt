@@ -1,8 +1,8 @@
 use Prim.Native.Nat.{_-_, _%_, _≤_}
 use mathlib.Core.Path.{_≡_}
 use mathlib.Core.List.{_++_}
-use lib.ListN.{length, take, drop}
-use Rattle.modes.proofs.machine.run.Given as given
+use lib.ListN.{take, drop}
+use Rattle.modes.proofs.machine.run_whole.Given as given
 
 -- What is written and what is still to be made are together what is to be made of the text.
 abbrev pub Inv-loop-at : given.InvT-loop-at
