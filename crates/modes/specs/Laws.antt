@@ -11,6 +11,10 @@ use Rattle.modes.specs.Modes.{ecb, cbcEncrypt, cbcDecrypt, cfbEncrypt, cfbDecr
 abbrev pub Undoes : ℕ → (List ℕ → List ℕ) → (List ℕ → List ℕ) → Type 0
 Undoes least read write = (x : List ℕ) → Octets x → least ≤ length x → read (write x) ≡ x
 
+-- A text has as many octets as its message.
+abbrev pub Keeps : ℕ → (List ℕ → List ℕ) → Type 0
+Keeps least write = (x : List ℕ) → Octets x → least ≤ length x → (length (write x) ≡ length x) × Octets (write x)
+
 -- No two messages of one length share a text.
 abbrev pub Apart : ℕ → (List ℕ → List ℕ) → Type 0
 Apart least write =
@@ -27,6 +31,9 @@ EcbDecryptUndoes = (m : Step) → Reversible m → Undoes 16 (ecb (m .preimage))
 abbrev pub EcbEncryptUndoes : Type 0
 EcbEncryptUndoes = (m : Step) → Reversible m → Undoes 16 (ecb (m .image)) (ecb (m .preimage))
 
+abbrev pub EcbKeeps : Type 0
+EcbKeeps = (m : Step) → Reversible m → Keeps 16 (ecb (m .image)) × Keeps 16 (ecb (m .preimage))
+
 abbrev pub EcbApart : Type 0
 EcbApart = (m : Step) → Reversible m → Apart 16 (ecb (m .image))
 
@@ -41,6 +48,11 @@ CbcEncryptUndoes =
     (m : Step) → Reversible m → (start : List ℕ) → Sixteen start
     → Undoes 16 (cbcEncrypt (m .image) start) (cbcDecrypt (m .preimage) start)
 
+abbrev pub CbcKeeps : Type 0
+CbcKeeps =
+    (m : Step) → Reversible m → (start : List ℕ) → Sixteen start
+    → Keeps 16 (cbcEncrypt (m .image) start) × Keeps 16 (cbcDecrypt (m .preimage) start)
+
 abbrev pub CbcApart : Type 0
 CbcApart = (m : Step) → Reversible m → (start : List ℕ) → Sixteen start → Apart 16 (cbcEncrypt (m .image) start)
 
@@ -53,11 +65,18 @@ abbrev pub CfbEncryptUndoes : Type 0
 CfbEncryptUndoes =
     (f : List ℕ → List ℕ) → Lands f → (start : List ℕ) → Sixteen start → Undoes 0 (cfbEncrypt f start) (cfbDecrypt f start)
 
+abbrev pub CfbKeeps : Type 0
+CfbKeeps =
+    (f : List ℕ → List ℕ) → Lands f → (start : List ℕ) → Sixteen start → Keeps 0 (cfbEncrypt f start) × Keeps 0 (cfbDecrypt f start)
+
 abbrev pub CfbApart : Type 0
 CfbApart = (f : List ℕ → List ℕ) → Lands f → (start : List ℕ) → Sixteen start → Apart 0 (cfbEncrypt f start)
 
 abbrev pub CtrUndoes : Type 0
 CtrUndoes = (f : List ℕ → List ℕ) → Lands f → (start : List ℕ) → Sixteen start → Undoes 0 (ctr f start) (ctr f start)
+
+abbrev pub CtrKeeps : Type 0
+CtrKeeps = (f : List ℕ → List ℕ) → Lands f → (start : List ℕ) → Sixteen start → Keeps 0 (ctr f start)
 
 abbrev pub CtrApart : Type 0
 CtrApart = (f : List ℕ → List ℕ) → Lands f → (start : List ℕ) → Sixteen start → Apart 0 (ctr f start)
