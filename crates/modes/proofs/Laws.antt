@@ -1,13 +1,12 @@
 -- The laws of the modes.
 use mathlib.Core.Path.{_≡_, refl, sym, ap, ap₂, subst, _∙_}
-use mathlib.Core.List.{List, [], _∷_, _++_}
-use Prim.Native.Nat.{ℕ, _+_, _-_, _%_, _^_, _<_, _≤_}
+use mathlib.Core.List.{List, [], _++_}
+use Prim.Native.Nat.{ℕ, _+_, _-_, _%_, _^_, _≤_}
 use native.Mathlib.Omega.{arith}
 use lib.ListN.{length, take, drop, replicate}
 use Rattle.std.proofs.shelf.Lists.{length-append, length-drop, length-take-le, take-at, drop-at, take-append-drop}
 use Rattle.blocks.specs.Octets.{Octets, Sixteen, xorEach}
 use Rattle.blocks.specs.Fields.{number}
-use Rattle.blocks.specs.Steps.{Step, Reversible}
 use Rattle.blocks.proofs.Numbers.{length-field, octets-field, octets-append}
 use Rattle.blocks.proofs.Octetwise.{length-xorEach-front, octets-xorEach, xorEach-comm, xorEach-undo, xorEach-undo-front, xorEach-sixteen, xorEach-append, xorEach-zeros}
 use Rattle.modes.specs.Modes.{ecbRow, ecb, cbcForth, cbcEncrypt, cbcBack, cbcDecrypt, zeroed, cfbForth, cfbEncrypt, cfbBack, cfbDecrypt, counted, ctrRow, ctr}

@@ -1,6 +1,5 @@
 // CTR: each piece mixed with the image of a count.
 ghost use mathlib.Core.Path.{_≡_};
-ghost use mathlib.Core.List.{List};
 ghost use lib.ListN.{length};
 ghost use Rattle.modes.specs.Pieces.{pieces, glue};
 ghost use Rattle.modes.specs.Rows.{streamed};
