@@ -1,20 +1,19 @@
 -- The laws of the modes.
 use mathlib.Core.Path.{_≡_, refl, sym, ap, ap₂, subst, _∙_}
-use mathlib.Core.List.{List, [], _∷_, _++_}
-use Prim.Native.Nat.{ℕ, _+_, _-_, _%_, _^_, _<_, _≤_}
+use mathlib.Core.List.{List, [], _++_}
+use Prim.Native.Nat.{ℕ, _+_, _-_, _%_, _^_, _≤_}
 use native.Mathlib.Omega.{arith}
 use lib.ListN.{length, take, drop, replicate}
 use Rattle.std.proofs.shelf.Lists.{length-append, length-drop, length-take-le, take-at, drop-at, take-append-drop}
 use Rattle.blocks.specs.Octets.{Octets, Sixteen, xorEach}
 use Rattle.blocks.specs.Fields.{number}
-use Rattle.blocks.specs.Steps.{Step, Reversible}
 use Rattle.blocks.proofs.Numbers.{length-field, octets-field, octets-append}
 use Rattle.blocks.proofs.Octetwise.{length-xorEach-front, octets-xorEach, xorEach-comm, xorEach-undo, xorEach-undo-front, xorEach-sixteen, xorEach-append, xorEach-zeros}
 use Rattle.modes.specs.Modes.{ecbRow, ecb, cbcForth, cbcEncrypt, cbcBack, cbcDecrypt, zeroed, cfbForth, cfbEncrypt, cfbBack, cfbDecrypt, counted, ctrRow, ctr}
-use Rattle.modes.specs.Laws.{Lands, EcbDecryptUndoes, EcbEncryptUndoes, EcbApart, CbcDecryptUndoes, CbcEncryptUndoes, CbcApart, CfbDecryptUndoes, CfbEncryptUndoes, CfbApart, CtrUndoes, CtrApart}
+use Rattle.modes.specs.Laws.{Lands, EcbDecryptUndoes, EcbEncryptUndoes, EcbKeeps, EcbApart, CbcDecryptUndoes, CbcEncryptUndoes, CbcKeeps, CbcApart, CfbDecryptUndoes, CfbEncryptUndoes, CfbKeeps, CfbApart, CtrUndoes, CtrKeeps, CtrApart}
 use Rattle.modes.proofs.Pieces.{Part, octets-take, octets-drop}
 use Rattle.modes.proofs.Mixes.{xor-filled}
-use Rattle.modes.proofs.Undoing.{StealUndone, steal-undoes, StreamUndone, stream-undoes, apart}
+use Rattle.modes.proofs.Undoing.{StealUndone, steal-undoes, steal-keeps, StreamUndone, stream-undoes, stream-keeps, apart}
 
 -- A short piece that is filled up from c, and what c lends.
 module _ (q c : List ℕ) (h : Part q) (s : Sixteen c) where
@@ -41,6 +40,7 @@ ecb-undone f g land undo =
       along = λ k p o s. refl;
       full = λ k p q o s h. land _ (filled q (f p) h (land p s) q (h .2) refl);
       last = λ k p q o s h. lent-part q (f p) h (land p s);
+      short = λ k p q o s h. lent q (f p) h (land p s);
       full-back = λ k p q o s h.
           ap g (ap₂ (λ n z. take (length q) (f p) ++ drop n z) (lent q (f p) h (land p s)) (full-back p q s h)
           ∙ ap (λ z. take (length q) (f p) ++ z) (drop-at q (drop (length q) (f p)) (length q) refl)
@@ -55,6 +55,12 @@ ecb-decrypt-undoes m r = steal-undoes _ _ _ (ecb-undone (m .image) (m .preimage)
 
 pub ecb-encrypt-undoes : EcbEncryptUndoes
 ecb-encrypt-undoes m r = steal-undoes _ _ _ (ecb-undone (m .preimage) (m .image) (r .back) (r .met)) [] tt
+
+pub ecb-keeps : EcbKeeps
+ecb-keeps m r = (
+  steal-keeps _ _ _ (ecb-undone (m .image) (m .preimage) (r .forth) (r .undone)) [] tt,
+  steal-keeps _ _ _ (ecb-undone (m .preimage) (m .image) (r .back) (r .met)) [] tt,
+)
 
 pub ecb-apart : EcbApart
 ecb-apart m r = apart 16 (ecb (m .preimage)) (ecb (m .image)) (ecb-decrypt-undoes m r)
@@ -103,6 +109,7 @@ module _ (f g : List ℕ → List ℕ) (land : Lands f) (undo : (p : List ℕ) �
         along = λ k p o s. refl;
         full = λ k p q o s h. land _ (mixed-sixteen q (f (xorEach p k)) h (c-sixteen k p o s));
         last = λ k p q o s h. lent-part q (f (xorEach p k)) h (c-sixteen k p o s);
+        short = λ k p q o s h. lent q (f (xorEach p k)) h (c-sixteen k p o s);
         full-back = λ k p q o s h. ap (λ z. xorEach (g z) k) (lent-full q (f (xorEach p k)) h (c-sixteen k p o s)) ∙ back k p o s;
         last-back = λ k p q o s h. lent-last q (f (xorEach p k)) h (c-sixteen k p o s);
       }
@@ -148,6 +155,7 @@ module _ (f g : List ℕ → List ℕ) (land : Lands f) (undo : (p : List ℕ) �
         along = back;
         full = λ k p q o s h. xorEach-sixteen _ k (land _ (w-filled q (f p) k h (land p s) o)) o;
         last = λ k p q o s h. lent-part q _ h (w-sixteen q (f p) k h (land p s) o);
+        short = λ k p q o s h. lent q _ h (w-sixteen q (f p) k h (land p s) o);
         full-back = λ k p q o s h. ap g (y-full q (f p) k h (land p s) o _ _ refl (y-is q (f p) k h (land p s) o)) ∙ undo p s;
         last-back = λ k p q o s h.
             ap₂ take (lent q _ h (w-sixteen q (f p) k h (land p s) o)) (y-is q (f p) k h (land p s) o) ∙ take-at q (drop (length q) (f p)) (length q) refl;
@@ -158,6 +166,12 @@ cbc-decrypt-undoes m r = steal-undoes _ _ _ (cbc-forth-undone (m .image) (m .pre
 
 pub cbc-encrypt-undoes : CbcEncryptUndoes
 cbc-encrypt-undoes m r = steal-undoes _ _ _ (cbc-back-undone (m .preimage) (m .image) (r .back) (r .met))
+
+pub cbc-keeps : CbcKeeps
+cbc-keeps m r start s = (
+  steal-keeps _ _ _ (cbc-forth-undone (m .image) (m .preimage) (r .forth) (r .undone)) start s,
+  steal-keeps _ _ _ (cbc-back-undone (m .preimage) (m .image) (r .back) (r .met)) start s,
+)
 
 pub cbc-apart : CbcApart
 cbc-apart m r start s = apart 16 (cbcDecrypt (m .preimage) start) (cbcEncrypt (m .image) start) (cbc-decrypt-undoes m r start s)
@@ -210,11 +224,17 @@ cfb-decrypt-undoes f land = stream-undoes _ _ (cfb-forth-undone f land)
 pub cfb-encrypt-undoes : CfbEncryptUndoes
 cfb-encrypt-undoes f land = stream-undoes _ _ (cfb-back-undone f land)
 
+pub cfb-keeps : CfbKeeps
+cfb-keeps f land start s = (stream-keeps _ _ (cfb-forth-undone f land) start s, stream-keeps _ _ (cfb-back-undone f land) start s)
+
 pub cfb-apart : CfbApart
 cfb-apart f land start s = apart 0 (cfbDecrypt f start) (cfbEncrypt f start) (cfb-decrypt-undoes f land start s)
 
 pub ctr-undoes : CtrUndoes
 ctr-undoes f land start s = stream-undoes _ _ (ctr-undone f land) (f start) (land start s)
+
+pub ctr-keeps : CtrKeeps
+ctr-keeps f land start s = stream-keeps _ _ (ctr-undone f land) (f start) (land start s)
 
 pub ctr-apart : CtrApart
 ctr-apart f land start s = apart 0 (ctr f start) (ctr f start) (ctr-undoes f land start s)

@@ -1,11 +1,11 @@
 -- The loop over the pieces of a text: what is written, and what is still to be made.
-use mathlib.Core.Path.{_≡_, refl, sym, ap, ap₂, _∙_}
+use mathlib.Core.Path.{_≡_, sym, ap, ap₂, _∙_}
 use mathlib.Core.List.{List, [], _++_}
 use mathlib.Core.Logic.{_⊎_, inl, inr, ⊎-elim}
 use Prim.Native.Nat.{ℕ, _+_, _-_, _%_, _<_, _≤_}
 use native.Mathlib.Omega.{arith}
 use lib.ListN.{length, take, drop}
-use Rattle.std.proofs.shelf.Lists.{append-assoc, append-nil, length-take-le, length-append, length-drop, take-at, take-all, drop-drop, drop-all, take-append-drop}
+use Rattle.std.proofs.shelf.Lists.{append-assoc, length-take-le, length-append, length-drop, take-at, drop-drop, drop-all, take-append-drop}
 use Rattle.std.proofs.shelf.Tests.{cases-lt}
 
 -- Past a whole piece before `end` there is nothing, or enough.

@@ -1,5 +1,5 @@
 -- How a text is cut, and put together again.
-use mathlib.Core.Path.{_≡_, refl, sym, ap, ap₂, _∙_}
+use mathlib.Core.Path.{_≡_, refl, sym, ap, ap₂, subst, _∙_}
 use mathlib.Core.List.{List, [], _∷_, _++_}
 use mathlib.Core.Logic.{_⊎_, inl, inr, ⊎-elim}
 use Prim.Native.Nat.{ℕ, zero, suc, _+_, _*_, _/_, _<_, _≤_}
@@ -9,6 +9,7 @@ use lib.ListN.{length, take, drop, getD}
 use Rattle.std.proofs.shelf.Lists.{append-nil, length-append, length-drop, length-take-le, drop-all, take-all, nil-from-length, take-append-drop, take-at, drop-at, getD-drop}
 use Rattle.std.proofs.shelf.Tests.{cases-lt}
 use Rattle.blocks.specs.Octets.{Octets, Sixteen}
+use Rattle.blocks.proofs.Numbers.{octets-append}
 use Rattle.modes.specs.Pieces.{cut, pieces, glue}
 
 pub pieces-more : (x : List ℕ) → 0 < length x → pieces x ≡ take 16 x ∷ pieces (drop 16 x)
@@ -75,4 +76,12 @@ pieces-glue (p ∷ ps) h =
     (λ (w : Part p × (ps ≡ [])).
     ap (λ r. pieces (p ++ glue r)) (w .1) ∙ ap pieces (append-nil p) ∙ pieces-one p (w .0 .0) (omega (arith, w .0 .1))
     ∙ ap (λ qs. p ∷ qs) (sym (w .1)))
+    h
+
+pub octets-glue : (ps : List (List ℕ)) → Pieced ps → Octets (glue ps)
+octets-glue [] h = λ k. lit< tt
+octets-glue (p ∷ ps) h =
+    ⊎-elim
+    (λ (w : Sixteen p × Pieced ps). octets-append p (glue ps) (w .0 .1) (octets-glue ps (w .1)))
+    (λ (w : Part p × (ps ≡ [])). subst (λ (qs : List (List ℕ)). Octets (p ++ glue qs)) (sym (w .1)) (octets-append p [] (w .0 .2) (λ k. lit< tt)))
     h

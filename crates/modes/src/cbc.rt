@@ -3,7 +3,7 @@ ghost use mathlib.Core.Path.{_≡_};
 ghost use lib.ListN.{length};
 ghost use Rattle.modes.specs.Modes.{cbcEncrypt, cbcDecrypt};
 ghost use Rattle.modes.specs.Outcome.{modeAnswer, written};
-ghost use Rattle.modes.specs.Laws.{CbcDecryptUndoes, CbcEncryptUndoes, CbcApart};
+ghost use Rattle.modes.specs.Laws.{CbcKeeps, CbcDecryptUndoes, CbcEncryptUndoes, CbcApart};
 use crate::machine::Mode;
 use crate::machine::apply;
 use crate::parts::filled;
@@ -91,6 +91,7 @@ pub fn cbc_encrypt<B: Block>(
     ensures answer { λ r. ⌜ r ≡ modeAnswer 16 (length (now (message .entry))) (length (now (out .entry))) ⌝ }
     ensures text { λ r. ⌜ now (out .exit) ≡ written r (cbcEncrypt (meaning (now (block .entry)) .image) start (now (message .entry))) (now (out .entry)) ⌝ }
     ensures same { λ _. ⌜ meaning (now (block .exit)) ≡ meaning (now (block .entry)) ⌝ }
+    ensures keeps { λ _. ⌜ CbcKeeps ⌝ }
     ensures undone { λ _. ⌜ CbcDecryptUndoes ⌝ }
     ensures apart { λ _. ⌜ CbcApart ⌝ }
 {
@@ -107,6 +108,7 @@ pub fn cbc_decrypt<B: Block>(
     ensures answer { λ r. ⌜ r ≡ modeAnswer 16 (length (now (message .entry))) (length (now (out .entry))) ⌝ }
     ensures text { λ r. ⌜ now (out .exit) ≡ written r (cbcDecrypt (meaning (now (block .entry)) .preimage) start (now (message .entry))) (now (out .entry)) ⌝ }
     ensures same { λ _. ⌜ meaning (now (block .exit)) ≡ meaning (now (block .entry)) ⌝ }
+    ensures keeps { λ _. ⌜ CbcKeeps ⌝ }
     ensures undone { λ _. ⌜ CbcEncryptUndoes ⌝ }
 {
     apply(&mut Decryption { before: start }, block, message, out)

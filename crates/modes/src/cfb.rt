@@ -3,7 +3,7 @@ ghost use mathlib.Core.Path.{_≡_};
 ghost use lib.ListN.{length};
 ghost use Rattle.modes.specs.Modes.{cfbEncrypt, cfbDecrypt};
 ghost use Rattle.modes.specs.Outcome.{modeAnswer, written};
-ghost use Rattle.modes.specs.Laws.{CfbDecryptUndoes, CfbEncryptUndoes, CfbApart};
+ghost use Rattle.modes.specs.Laws.{CfbKeeps, CfbDecryptUndoes, CfbEncryptUndoes, CfbApart};
 use crate::machine::Mode;
 use crate::machine::apply;
 use crate::parts::mix;
@@ -84,6 +84,7 @@ pub fn cfb_encrypt<B: Block>(
     ensures answer { λ r. ⌜ r ≡ modeAnswer 0 (length (now (message .entry))) (length (now (out .entry))) ⌝ }
     ensures text { λ r. ⌜ now (out .exit) ≡ written r (cfbEncrypt (meaning (now (block .entry)) .image) start (now (message .entry))) (now (out .entry)) ⌝ }
     ensures same { λ _. ⌜ meaning (now (block .exit)) ≡ meaning (now (block .entry)) ⌝ }
+    ensures keeps { λ _. ⌜ CfbKeeps ⌝ }
     ensures undone { λ _. ⌜ CfbDecryptUndoes ⌝ }
     ensures apart { λ _. ⌜ CfbApart ⌝ }
 {
@@ -100,6 +101,7 @@ pub fn cfb_decrypt<B: Block>(
     ensures answer { λ r. ⌜ r ≡ modeAnswer 0 (length (now (message .entry))) (length (now (out .entry))) ⌝ }
     ensures text { λ r. ⌜ now (out .exit) ≡ written r (cfbDecrypt (meaning (now (block .entry)) .image) start (now (message .entry))) (now (out .entry)) ⌝ }
     ensures same { λ _. ⌜ meaning (now (block .exit)) ≡ meaning (now (block .entry)) ⌝ }
+    ensures keeps { λ _. ⌜ CfbKeeps ⌝ }
     ensures undone { λ _. ⌜ CfbEncryptUndoes ⌝ }
 {
     apply(&mut Decryption { before: start }, block, message, out)

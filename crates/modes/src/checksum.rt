@@ -1,6 +1,6 @@
 // The checksum of a message.
 ghost use mathlib.Core.Path.{_≡_};
-ghost use Prim.Native.Nat.{ℕ, _<_, _≤_};
+ghost use Prim.Native.Nat.{_<_, _≤_};
 ghost use lib.ListN.{length, take};
 ghost use Rattle.modes.specs.Checksum.{wholeMark, shortMark, padded, closed, checksum as sum, checksumAnswer};
 use crate::machine::LONGEST;

@@ -1,12 +1,11 @@
 // CTR: each piece mixed with the image of a count.
 ghost use mathlib.Core.Path.{_≡_};
-ghost use mathlib.Core.List.{List};
 ghost use lib.ListN.{length};
 ghost use Rattle.modes.specs.Pieces.{pieces, glue};
 ghost use Rattle.modes.specs.Rows.{streamed};
 ghost use Rattle.modes.specs.Modes.{counted, ctrRow, ctr};
 ghost use Rattle.modes.specs.Outcome.{modeAnswer, written};
-ghost use Rattle.modes.specs.Laws.{CtrUndoes, CtrApart};
+ghost use Rattle.modes.specs.Laws.{CtrKeeps, CtrUndoes, CtrApart};
 use crate::machine::Mode;
 use crate::machine::admit;
 use crate::machine::run;
@@ -90,6 +89,7 @@ pub fn ctr_encrypt<B: Block>(
     ensures answer { λ r. ⌜ r ≡ modeAnswer 0 (length (now (message .entry))) (length (now (out .entry))) ⌝ }
     ensures text { λ r. ⌜ now (out .exit) ≡ written r (ctr (meaning (now (block .entry)) .image) start (now (message .entry))) (now (out .entry)) ⌝ }
     ensures same { λ _. ⌜ meaning (now (block .exit)) ≡ meaning (now (block .entry)) ⌝ }
+    ensures keeps { λ _. ⌜ CtrKeeps ⌝ }
     ensures undone { λ _. ⌜ CtrUndoes ⌝ }
     ensures apart { λ _. ⌜ CtrApart ⌝ }
 {
@@ -106,6 +106,7 @@ pub fn ctr_decrypt<B: Block>(
     ensures answer { λ r. ⌜ r ≡ modeAnswer 0 (length (now (message .entry))) (length (now (out .entry))) ⌝ }
     ensures text { λ r. ⌜ now (out .exit) ≡ written r (ctr (meaning (now (block .entry)) .image) start (now (message .entry))) (now (out .entry)) ⌝ }
     ensures same { λ _. ⌜ meaning (now (block .exit)) ≡ meaning (now (block .entry)) ⌝ }
+    ensures keeps { λ _. ⌜ CtrKeeps ⌝ }
     ensures undone { λ _. ⌜ CtrUndoes ⌝ }
 {
     pass(block, start, message, out)

@@ -3,7 +3,7 @@ ghost use mathlib.Core.Path.{_≡_};
 ghost use lib.ListN.{length};
 ghost use Rattle.modes.specs.Modes.{ecb};
 ghost use Rattle.modes.specs.Outcome.{modeAnswer, written};
-ghost use Rattle.modes.specs.Laws.{EcbDecryptUndoes, EcbEncryptUndoes, EcbApart};
+ghost use Rattle.modes.specs.Laws.{EcbKeeps, EcbDecryptUndoes, EcbEncryptUndoes, EcbApart};
 use crate::machine::Mode;
 use crate::machine::apply;
 use crate::parts::filled;
@@ -85,6 +85,7 @@ pub fn ecb_encrypt<B: Block>(
     ensures answer { λ r. ⌜ r ≡ modeAnswer 16 (length (now (message .entry))) (length (now (out .entry))) ⌝ }
     ensures text { λ r. ⌜ now (out .exit) ≡ written r (ecb (meaning (now (block .entry)) .image) (now (message .entry))) (now (out .entry)) ⌝ }
     ensures same { λ _. ⌜ meaning (now (block .exit)) ≡ meaning (now (block .entry)) ⌝ }
+    ensures keeps { λ _. ⌜ EcbKeeps ⌝ }
     ensures undone { λ _. ⌜ EcbDecryptUndoes ⌝ }
     ensures apart { λ _. ⌜ EcbApart ⌝ }
 {
@@ -100,6 +101,7 @@ pub fn ecb_decrypt<B: Block>(
     ensures answer { λ r. ⌜ r ≡ modeAnswer 16 (length (now (message .entry))) (length (now (out .entry))) ⌝ }
     ensures text { λ r. ⌜ now (out .exit) ≡ written r (ecb (meaning (now (block .entry)) .preimage) (now (message .entry))) (now (out .entry)) ⌝ }
     ensures same { λ _. ⌜ meaning (now (block .exit)) ≡ meaning (now (block .entry)) ⌝ }
+    ensures keeps { λ _. ⌜ EcbKeeps ⌝ }
     ensures undone { λ _. ⌜ EcbEncryptUndoes ⌝ }
 {
     apply(&mut Decryption, block, message, out)

@@ -1,4 +1,4 @@
-use Rattle.modes.proofs.Laws.{cbc-decrypt-undoes, cbc-apart}
+use Rattle.modes.proofs.Laws.{cbc-keeps, cbc-decrypt-undoes, cbc-apart}
 use Rattle.modes.proofs.cbc.cbc_encrypt.Needs as need
 
 pub returns : need.returns
@@ -7,6 +7,7 @@ returns g c =
       answer = c .apply .ensures .answer;
       text = c .apply .ensures .text;
       same = c .apply .ensures .same;
+      keeps = cbc-keeps;
       undone = cbc-decrypt-undoes;
       apart = cbc-apart;
     }

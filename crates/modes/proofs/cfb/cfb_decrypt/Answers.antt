@@ -1,4 +1,4 @@
-use Rattle.modes.proofs.Laws.{cfb-encrypt-undoes}
+use Rattle.modes.proofs.Laws.{cfb-keeps, cfb-encrypt-undoes}
 use Rattle.modes.proofs.cfb.cfb_decrypt.Needs as need
 
 pub returns : need.returns
@@ -7,5 +7,6 @@ returns g c =
       answer = c .apply .ensures .answer;
       text = c .apply .ensures .text;
       same = c .apply .ensures .same;
+      keeps = cfb-keeps;
       undone = cfb-encrypt-undoes;
     }

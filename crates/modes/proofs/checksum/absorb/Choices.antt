@@ -1,6 +1,6 @@
 use Prim.Native.Nat.{_-_, _≤_}
 use mathlib.Core.Path.{_≡_}
-use lib.ListN.{length, take, drop}
+use lib.ListN.{take, drop}
 use Rattle.modes.specs.Checksum.{absorbed}
 use Rattle.modes.specs.Pieces.{pieces}
 use Rattle.modes.proofs.checksum.absorb.Given as given

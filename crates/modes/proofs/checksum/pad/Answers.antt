@@ -1,5 +1,5 @@
 use native.Mathlib.Nat.{sub-zero}
-use mathlib.Core.Path.{_≡_, ap₂, _∙_}
+use mathlib.Core.Path.{ap₂, _∙_}
 use mathlib.Core.List.{_++_}
 use lib.ListN.{length, drop, set, replicate}
 use Rattle.modes.proofs.Sums.{pad-is}

@@ -1,4 +1,4 @@
-use Rattle.modes.proofs.Laws.{ctr-undoes}
+use Rattle.modes.proofs.Laws.{ctr-keeps, ctr-undoes}
 use Rattle.modes.proofs.ctr.ctr_decrypt.Needs as need
 
 pub returns : need.returns
@@ -7,5 +7,6 @@ returns g c =
       answer = c .pass .ensures .answer;
       text = c .pass .ensures .text;
       same = c .pass .ensures .same;
+      keeps = ctr-keeps;
       undone = ctr-undoes;
     }

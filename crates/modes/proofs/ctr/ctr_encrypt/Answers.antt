@@ -1,4 +1,4 @@
-use Rattle.modes.proofs.Laws.{ctr-undoes, ctr-apart}
+use Rattle.modes.proofs.Laws.{ctr-keeps, ctr-undoes, ctr-apart}
 use Rattle.modes.proofs.ctr.ctr_encrypt.Needs as need
 
 pub returns : need.returns
@@ -7,6 +7,7 @@ returns g c =
       answer = c .pass .ensures .answer;
       text = c .pass .ensures .text;
       same = c .pass .ensures .same;
+      keeps = ctr-keeps;
       undone = ctr-undoes;
       apart = ctr-apart;
     }

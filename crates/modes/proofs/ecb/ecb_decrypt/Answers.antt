@@ -1,4 +1,4 @@
-use Rattle.modes.proofs.Laws.{ecb-encrypt-undoes}
+use Rattle.modes.proofs.Laws.{ecb-keeps, ecb-encrypt-undoes}
 use Rattle.modes.proofs.ecb.ecb_decrypt.Needs as need
 
 pub returns : need.returns
@@ -7,5 +7,6 @@ returns g c =
       answer = c .apply .ensures .answer;
       text = c .apply .ensures .text;
       same = c .apply .ensures .same;
+      keeps = ecb-keeps;
       undone = ecb-encrypt-undoes;
     }

@@ -1,4 +1,4 @@
-use Rattle.modes.proofs.Laws.{ecb-decrypt-undoes, ecb-apart}
+use Rattle.modes.proofs.Laws.{ecb-keeps, ecb-decrypt-undoes, ecb-apart}
 use Rattle.modes.proofs.ecb.ecb_encrypt.Needs as need
 
 pub returns : need.returns
@@ -7,6 +7,7 @@ returns g c =
       answer = c .apply .ensures .answer;
       text = c .apply .ensures .text;
       same = c .apply .ensures .same;
+      keeps = ecb-keeps;
       undone = ecb-decrypt-undoes;
       apart = ecb-apart;
     }

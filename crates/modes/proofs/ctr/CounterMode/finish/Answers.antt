@@ -1,5 +1,4 @@
 use native.Mathlib.Omega.{arith}
-use mathlib.Core.Path.{_≡_}
 use Rattle.modes.specs.Modes.{ctrRow}
 use Rattle.modes.proofs.Rows.{stream-end}
 use Rattle.modes.proofs.ctr.CounterMode.finish.Needs as need
