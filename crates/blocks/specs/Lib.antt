@@ -2,3 +2,4 @@ pub mod Octets
 pub mod Fields
 pub mod Steps
 pub mod Answers
+pub mod Written

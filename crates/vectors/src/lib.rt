@@ -1,0 +1,5 @@
+// Worked examples and refusals, as tests.
+#[cfg(test)]
+mod hex;
+#[cfg(test)]
+mod keys;
