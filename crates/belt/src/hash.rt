@@ -16,6 +16,10 @@ use blocks::octets::xor;
 // The longest message, in octets.
 const LONGEST: usize = 65_536;
 
+// The first 32 entries of the substitution table.
+const START: [u8; 32] =
+    *b"\xB1\x94\xBA\xC8\x0A\x08\xF5\x3B\x36\x6D\x00\x8E\x58\x4A\x5D\xE4\x85\x04\xFA\x9D\x1B\xB6\xC7\xAC\x25\x2E\x72\xC2\x02\xFD\xCE\x0D";
+
 // What the compression of 64 octets gives.
 #[derive(Clone, Copy)]
 pub(crate) struct Compressed {
@@ -74,46 +78,13 @@ fn block_at(message: &[u8], at: usize) -> [u8; 32]
 }
 
 impl Running {
-    // Before the first block: no mix, and the first 32 entries of the substitution table.
+    // Before the first block.
     fn start() -> Running
         ensures { λ r. ⌜ r ≡ start ⌝ }
     {
         Running {
             mix: [0; 16],
-            state: [
-                0xB1,
-                0x94,
-                0xBA,
-                0xC8,
-                0x0A,
-                0x08,
-                0xF5,
-                0x3B,
-                0x36,
-                0x6D,
-                0x00,
-                0x8E,
-                0x58,
-                0x4A,
-                0x5D,
-                0xE4,
-                0x85,
-                0x04,
-                0xFA,
-                0x9D,
-                0x1B,
-                0xB6,
-                0xC7,
-                0xAC,
-                0x25,
-                0x2E,
-                0x72,
-                0xC2,
-                0x02,
-                0xFD,
-                0xCE,
-                0x0D,
-            ],
+            state: START,
         }
     }
 

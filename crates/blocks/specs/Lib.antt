@@ -3,3 +3,4 @@ pub mod Fields
 pub mod Steps
 pub mod Answers
 pub mod Written
+pub mod Same

@@ -1,0 +1,4 @@
+mod WrapStep
+mod WrapSteps
+mod WrapInPlace
+mod WrapAnswered

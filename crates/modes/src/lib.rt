@@ -1,0 +1,2 @@
+pub mod scratch;
+pub mod wrap;
