@@ -10,38 +10,38 @@ use Rattle.blocks.specs.Octets.{Octets, Sixteen}
 use Rattle.blocks.proofs.Numbers.{octets-append}
 use Rattle.modes.specs.Wrapping.{wrapStep, unwrapStep, wrapSteps, unwrapSteps, rounds, wrapped, unwrapped}
 use Rattle.modes.specs.WrapExact.{Lands, WrapExact}
-use Rattle.modes.proofs.WrapStep.{unwrap-wrap-step, wrap-unwrap-step, wrapStep-keeps, unwrapStep-keeps}
+use Rattle.modes.proofs.WrapStep.{wrap-turns, unwrap-turns}
 
--- as long as r, and octets
-abbrev pub Like : List ℕ → List ℕ → Type 0
+-- t is as long as r, and octets
+abbrev Like : List ℕ → List ℕ → Type 0
 Like r t = (length t ≡ length r) × Octets t
 
 module _ (f : List ℕ → List ℕ) (lands : Lands f) where
-  pub wrapSteps-keeps : (n : ℕ) (r : List ℕ) → Octets r → 32 ≤ length r → Like r (wrapSteps f n r)
+  wrapSteps-keeps : (n : ℕ) (r : List ℕ) → Octets r → 32 ≤ length r → Like r (wrapSteps f n r)
   wrapSteps-keeps zero r o h = (refl, o)
   wrapSteps-keeps (suc n) r o h =
       let p = wrapSteps-keeps n r o h in
-      let q = wrapStep-keeps f lands (suc n) (wrapSteps f n r) (p .1) (omega arith) in
-      (q .0 ∙ p .0, q .1)
+      let q = wrap-turns f lands (suc n) (wrapSteps f n r) (p .1) (omega arith) in
+      (q .long ∙ p .0, q .second)
 
-  pub unwrapSteps-keeps : (n : ℕ) (r : List ℕ) → Octets r → 32 ≤ length r → Like r (unwrapSteps f n r)
+  unwrapSteps-keeps : (n : ℕ) (r : List ℕ) → Octets r → 32 ≤ length r → Like r (unwrapSteps f n r)
   unwrapSteps-keeps zero r o h = (refl, o)
   unwrapSteps-keeps (suc n) r o h =
-      let q = unwrapStep-keeps f lands (suc n) r o h in
-      let p = unwrapSteps-keeps n (unwrapStep f (suc n) r) (q .1) (omega arith) in
-      (p .0 ∙ q .0, p .1)
+      let q = unwrap-turns f lands (suc n) r o h in
+      let p = unwrapSteps-keeps n (unwrapStep f (suc n) r) (q .first) (omega (arith, q .long)) in
+      (p .0 ∙ sym (q .long), p .1)
 
-  pub unwrap-wrap-steps : (n : ℕ) (r : List ℕ) → Octets r → 32 ≤ length r → unwrapSteps f n (wrapSteps f n r) ≡ r
+  unwrap-wrap-steps : (n : ℕ) (r : List ℕ) → Octets r → 32 ≤ length r → unwrapSteps f n (wrapSteps f n r) ≡ r
   unwrap-wrap-steps zero r o h = refl
   unwrap-wrap-steps (suc n) r o h =
       let p = wrapSteps-keeps n r o h in
-      ap (unwrapSteps f n) (unwrap-wrap-step f lands (suc n) (wrapSteps f n r) (p .1) (omega arith)) ∙ unwrap-wrap-steps n r o h
+      ap (unwrapSteps f n) (wrap-turns f lands (suc n) (wrapSteps f n r) (p .1) (omega arith) .back) ∙ unwrap-wrap-steps n r o h
 
-  pub wrap-unwrap-steps : (n : ℕ) (r : List ℕ) → Octets r → 32 ≤ length r → wrapSteps f n (unwrapSteps f n r) ≡ r
+  wrap-unwrap-steps : (n : ℕ) (r : List ℕ) → Octets r → 32 ≤ length r → wrapSteps f n (unwrapSteps f n r) ≡ r
   wrap-unwrap-steps zero r o h = refl
   wrap-unwrap-steps (suc n) r o h =
-      let q = unwrapStep-keeps f lands (suc n) r o h in
-      ap (wrapStep f (suc n)) (wrap-unwrap-steps n (unwrapStep f (suc n) r) (q .1) (omega arith)) ∙ wrap-unwrap-step f lands (suc n) r o h
+      let q = unwrap-turns f lands (suc n) r o h in
+      ap (wrapStep f (suc n)) (wrap-unwrap-steps n (unwrapStep f (suc n) r) (q .first) (omega (arith, q .long))) ∙ q .forth
 
   pub wrapped-keeps : (header x : List ℕ) → Sixteen header → Octets x → 16 ≤ length x → Like (x ++ header) (wrapped f header x)
   wrapped-keeps header x s o h =

@@ -3,3 +3,5 @@
 mod hex;
 #[cfg(test)]
 mod keys;
+#[cfg(test)]
+mod wrapping;

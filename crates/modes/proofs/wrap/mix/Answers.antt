@@ -1,14 +1,12 @@
 use borrow.Author.Needs.{needs}
 use native.Mathlib.Omega.{arith}
 use mathlib.Core.Path.{refl, ap, _∙_}
-use Prim.Native.Nat.{_-_, _/_}
-use lib.ListN.{length}
 use Rattle.blocks.specs.Octets.{xorEach}
 use Rattle.modes.proofs.WrapInPlace.{mix-none, mix-more, mix-all}
 use Rattle.modes.proofs.wrap.mix.Needs as need
 
 pub loop-j-holds : need.loop-j-holds
-loop-j-holds c = (refl, mix-none (c .args .text .now) ((length (c .args .text .now) - 1) / 16) (search needs) (omega arith))
+loop-j-holds c = (refl, mix-none (c .args .text .now) _ (search needs) (omega arith))
 
 pub loop-j-again : need.loop-j-again
 loop-j-again c = (

@@ -9,4 +9,4 @@ loop-i-again g c =
     let f = g .B·Block .meaning (c .args .block .now) .image in
     let i = c .loop-i .i in
     let here : i - 1 + 1 ≡ i = omega arith in
-    let e = unwrapSteps-more f i (c .loop-i .text) (c .loop-i-test .taken) in (cc, cc)
+    let e = unwrapSteps-more f i (c .loop-i .text) (omega arith) in (cc, cc)
