@@ -3,5 +3,5 @@ pub mod Entries
 pub mod Rounds
 pub mod Refused
 pub mod Undoing
-mod Compressing
-mod Hashing
+pub mod Compressing
+pub mod Hashing

@@ -22,10 +22,10 @@ const WORDS: [[u8; 4]; 6] = [
 ];
 
 // The word for the two lengths, where the transformation has one.
-fn word(length: usize, new_length: usize) -> Option<[u8; 4]>
-    ensures { λ r. ⌜ r ≡ wordFor length «new_length» ⌝ }
+fn word(old_length: usize, new_length: usize) -> Option<[u8; 4]>
+    ensures { λ r. ⌜ r ≡ wordFor «old_length» «new_length» ⌝ }
 {
-    let place = match (length, new_length) {
+    let place = match (old_length, new_length) {
         (16, 16) => 0,
         (24, 16) => 1,
         (24, 24) => 2,

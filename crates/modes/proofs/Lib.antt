@@ -1,4 +1,4 @@
-mod WrapStep
-mod WrapSteps
-mod WrapInPlace
-mod WrapAnswered
+pub mod WrapStep
+pub mod WrapSteps
+pub mod WrapInPlace
+pub mod WrapAnswered
