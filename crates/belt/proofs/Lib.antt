@@ -3,3 +3,5 @@ pub mod Entries
 pub mod Rounds
 pub mod Refused
 pub mod Undoing
+pub mod Compressing
+pub mod Hashing

@@ -4,3 +4,6 @@ pub mod Cipher
 pub mod Keys
 pub mod Inverse
 pub mod Cases
+pub mod Compression
+pub mod Hash
+pub mod Transformation

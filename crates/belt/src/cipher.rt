@@ -174,7 +174,7 @@ impl BeltBlock {
     }
 
     // The block with an expanded key.
-    fn with_expanded(x: [u8; 32]) -> BeltBlock
+    pub(crate) fn with_expanded(x: [u8; 32]) -> BeltBlock
         ensures { λ r. ⌜ r .key ≡ keyWords x ⌝ }
     {
         BeltBlock {

@@ -11,23 +11,32 @@ pub fn expand(key: &[u8]) -> Result<[u8; 32], Refusal>
     ensures { λ r. ⌜ r ≡ expandAnswer (now (key .entry)) ⌝ }
 {
     match key.len() {
-        16 => Ok(filled(key, key)),
-        24 => Ok(filled(key, &mixes(key))),
-        32 => Ok(filled(key, &[])),
+        16 => Ok(joined(key, key)),
+        24 => Ok(joined(key, &mixes(key))),
+        32 => Ok(joined(key, &[])),
         _ => Err(Refusal::KeyLength),
     }
 }
 
-// A key's octets and then what fills it up.
-fn filled(key: &[u8], rest: &[u8]) -> [u8; 32]
-    requires { ⌜ length (now key) + length (now rest) ≡ 32 ⌝ }
-    ensures { λ r. ⌜ r ≡ now (key .entry) ++ now (rest .entry) ⌝ }
+// Octets and then others, 32 together.
+pub(crate) fn joined(front: &[u8], rest: &[u8]) -> [u8; 32]
+    requires { ⌜ length (now front) + length (now rest) ≡ 32 ⌝ }
+    ensures { λ r. ⌜ r ≡ now (front .entry) ++ now (rest .entry) ⌝ }
 {
-    let mut full = [0; 32];
-    let n = key.len();
-    full[0..n].copy_from_slice(key);
-    full[n..32].copy_from_slice(rest);
-    full
+    let mut all = [0; 32];
+    lay(&mut all, front, rest);
+    all
+}
+
+// Writes octets and then others over a text of just their length.
+pub(crate) fn lay(all: &mut [u8], front: &[u8], rest: &[u8])
+    requires { ⌜ length (now front) + length (now rest) ≡ length (now all) ⌝ }
+    ensures { λ _. ⌜ now (all .exit) ≡ now (front .entry) ++ now (rest .entry) ⌝ }
+{
+    let n = front.len();
+    let end = all.len();
+    all[0..n].copy_from_slice(front);
+    all[n..end].copy_from_slice(rest);
 }
 
 // The mixes of the first and of the last three words of a key of six.

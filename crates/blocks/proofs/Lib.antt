@@ -1,3 +1,4 @@
 pub mod Octetwise
 pub mod Numbers
 pub mod Reversed
+pub mod Sameness

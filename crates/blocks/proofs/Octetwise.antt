@@ -1,13 +1,13 @@
 -- Lengths, octets and undoing of `xorEach` and `reverse`.
-use mathlib.Core.Path.{_≡_, refl, ap, ap₂, _∙_}
+use mathlib.Core.Path.{_≡_, refl, sym, ap, ap₂, _∙_}
 use mathlib.Core.List.{List, [], _∷_, _++_, reverse}
 use mathlib.Core.Logic.{⊎-elim}
-use Prim.Native.Nat.{ℕ, suc, zero, _-_, _<_, _≤_}
+use Prim.Native.Nat.{ℕ, suc, zero, _+_, _-_, _<_, _≤_}
 use native.Mathlib.Omega.{arith}
-use lib.Bits.{bitXor, xor-self, xor-zero-r, xor-assoc, xor-comm, xor-lt}
+use lib.Bits.{bitXor, bitOr, xor-self, xor-zero-r, xor-zero-l, xor-assoc, xor-comm, xor-lt, or-add-and, and-le-l, and-le-r}
 use lib.Dec.{lit<}
-use lib.ListN.{length, getD, replicate}
-use Rattle.std.proofs.shelf.Lists.{getD-reverse, length-reverse, getD-past}
+use lib.ListN.{length, getD, take, drop, replicate}
+use Rattle.std.proofs.shelf.Lists.{getD-reverse, length-reverse, getD-past, getD-drop}
 use Rattle.std.proofs.shelf.Tests.{cases-lt}
 use Rattle.blocks.specs.Octets.{Octets, Sixteen, xorEach}
 
@@ -79,3 +79,35 @@ reverse-sixteen xs p = (
       (λ (h : length xs ≤ k). rw (getD-past (reverse xs) k 0 (rw length-reverse h)) (omega arith))
       (cases-lt k (length xs)),
 )
+
+pub xorEach-assoc : (xs ys zs : List ℕ) → xorEach (xorEach xs ys) zs ≡ xorEach xs (xorEach ys zs)
+xorEach-assoc [] ys zs = refl
+xorEach-assoc (x ∷ xs) [] zs = refl
+xorEach-assoc (x ∷ xs) (y ∷ ys) [] = refl
+xorEach-assoc (x ∷ xs) (y ∷ ys) (z ∷ zs) = ap₂ _∷_ (xor-assoc x y z) (xorEach-assoc xs ys zs)
+
+pub zeros-xorEach : (n : ℕ) (xs : List ℕ) → length xs ≡ n → xorEach (replicate n 0) xs ≡ xs
+zeros-xorEach n xs e = xorEach-comm (replicate n 0) xs ∙ xorEach-zeros xs n e
+
+-- Two octets that leave nothing of each other are one, and an or is nothing only where both are.
+pub xor-none : (x y : ℕ) → bitXor x y ≡ 0 → x ≡ y
+xor-none x y e = sym (xor-undo x y) ∙ ap (λ z. bitXor z y) e ∙ xor-zero-l y
+
+pub or-none : (x y : ℕ) → bitOr x y ≡ 0 → (x ≡ 0) × (y ≡ 0)
+or-none x y e =
+    let h = or-add-and x y in
+    let l = and-le-l x y in
+    let r = and-le-r x y in (omega arith, omega arith)
+
+-- Octets of parts.
+pub octets-drop : (n : ℕ) (x : List ℕ) → Octets x → Octets (drop n x)
+octets-drop n x o = λ k. rw (getD-drop n x k 0) (o (n + k))
+
+pub octets-take : (n : ℕ) (x : List ℕ) → Octets x → Octets (take n x)
+octets-take zero x o = λ k. lit< tt
+octets-take (suc n) [] o = o
+octets-take (suc n) (y ∷ x) o = λ k. elim k as (λ m. getD (y ∷ take n x) m 0 < 256) [ zero ↦ o 0 | suc m ↦ octets-take n x (λ j. o (suc j)) m ]
+
+pub octets-zeros : (n : ℕ) → Octets (replicate n 0)
+octets-zeros zero = λ k. lit< tt
+octets-zeros (suc n) = λ k. elim k as (λ m. getD (replicate (suc n) 0) m 0 < 256) [ zero ↦ lit< tt | suc m ↦ octets-zeros n m ]

@@ -23,3 +23,7 @@ xorEach (x ∷ xs) (y ∷ ys) = bitXor x y ∷ xorEach xs ys
 abbrev pub part : ℕ → ℕ → List ℕ → List ℕ
 part i zero x = []
 part i (suc n) x = getD x i 0 ∷ part (suc i) n x
+
+-- The most octets of a message, in every call that takes one.
+abbrev pub longest : ℕ
+longest = 65536

@@ -9,6 +9,10 @@ pub record Step : Type 0 where
   pub image : List ℕ → List ℕ
   pub preimage : List ℕ → List ℕ
 
+-- f takes sixteen octets to sixteen octets; it need not be reversible.
+abbrev pub Lands : (List ℕ → List ℕ) → Type 0
+Lands f = (p : List ℕ) → Sixteen p → Sixteen (f p)
+
 -- On sixteen octets the two undo each other.
 pub record Reversible (m : Step) : Type 0 where
   pub forth : (p : List ℕ) → Sixteen p → Sixteen (m .image p)

@@ -3,6 +3,9 @@ ghost use mathlib.Core.Path.{_≡_};
 ghost use Rattle.blocks.specs.Octets.{xorEach};
 ghost use Rattle.blocks.specs.Fields.{field, number};
 
+// The most octets of a message, in every call that takes one.
+pub const LONGEST: usize = 65_536;
+
 // Octet by octet exclusive or.
 pub fn xor(a: [u8; 16], b: [u8; 16]) -> [u8; 16]
     ensures { λ r. ⌜ r ≡ xorEach a b ⌝ }

@@ -14,16 +14,11 @@ use Rattle.std.proofs.shelf.Tests.{cases-eq, cases-lt, eq-eqb, ne-eqb, cond-tru
 use Rattle.blocks.specs.Octets.{Octets, Sixteen, xorEach}
 use Rattle.blocks.specs.declared.answers.Refusal.{Refusal}
 use Rattle.blocks.proofs.Numbers.{octets-append}
-use Rattle.blocks.proofs.Octetwise.{length-xorEach, octets-xorEach, xorEach-sixteen}
+use Rattle.blocks.proofs.Octetwise.{length-xorEach, octets-xorEach, xorEach-sixteen, octets-take, octets-drop, octets-zeros}
 use Rattle.modes.specs.Pieces.{pieces}
-use Rattle.modes.specs.Laws.{Lands}
+use Rattle.blocks.specs.Steps.{Lands}
 use Rattle.modes.specs.Checksum.{wholeMark, shortMark, padded, closed, absorbed, checksum, checksumAnswer}
-use Rattle.modes.proofs.Pieces.{octets-take, octets-drop, Part, Pieced, pieces-pieced}
-
-octets-zeros : (n : ℕ) → Octets (replicate n 0)
-octets-zeros zero k = lit< tt
-octets-zeros (suc n) zero = lit< tt
-octets-zeros (suc n) (suc k) = octets-zeros n k
+use Rattle.modes.proofs.Pieces.{Part, Pieced, pieces-pieced}
 
 octets-cons : (x : ℕ) (xs : List ℕ) → x < 256 → Octets xs → Octets (x ∷ xs)
 octets-cons x xs h o zero = h

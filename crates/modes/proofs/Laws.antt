@@ -8,10 +8,11 @@ use Rattle.std.proofs.shelf.Lists.{length-append, length-drop, length-take-le, 
 use Rattle.blocks.specs.Octets.{Octets, Sixteen, xorEach}
 use Rattle.blocks.specs.Fields.{number}
 use Rattle.blocks.proofs.Numbers.{length-field, octets-field, octets-append}
-use Rattle.blocks.proofs.Octetwise.{length-xorEach-front, octets-xorEach, xorEach-comm, xorEach-undo, xorEach-undo-front, xorEach-sixteen, xorEach-append, xorEach-zeros}
+use Rattle.blocks.proofs.Octetwise.{length-xorEach-front, octets-xorEach, xorEach-comm, xorEach-undo, xorEach-undo-front, xorEach-sixteen, xorEach-append, xorEach-zeros, octets-take, octets-drop}
 use Rattle.modes.specs.Modes.{ecbRow, ecb, cbcForth, cbcEncrypt, cbcBack, cbcDecrypt, zeroed, cfbForth, cfbEncrypt, cfbBack, cfbDecrypt, counted, ctrRow, ctr}
-use Rattle.modes.specs.Laws.{Lands, EcbDecryptUndoes, EcbEncryptUndoes, EcbKeeps, EcbApart, CbcDecryptUndoes, CbcEncryptUndoes, CbcKeeps, CbcApart, CfbDecryptUndoes, CfbEncryptUndoes, CfbKeeps, CfbApart, CtrUndoes, CtrKeeps, CtrApart}
-use Rattle.modes.proofs.Pieces.{Part, octets-take, octets-drop}
+use Rattle.blocks.specs.Steps.{Lands}
+use Rattle.modes.specs.Laws.{EcbDecryptUndoes, EcbEncryptUndoes, EcbKeeps, EcbApart, CbcDecryptUndoes, CbcEncryptUndoes, CbcKeeps, CbcApart, CfbDecryptUndoes, CfbEncryptUndoes, CfbKeeps, CfbApart, CtrUndoes, CtrKeeps, CtrApart}
+use Rattle.modes.proofs.Pieces.{Part}
 use Rattle.modes.proofs.Mixes.{xor-filled}
 use Rattle.modes.proofs.Undoing.{StealUndone, steal-undoes, steal-keeps, StreamUndone, stream-undoes, stream-keeps, apart}
 

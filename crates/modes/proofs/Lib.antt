@@ -6,3 +6,7 @@ pub mod Sums
 pub mod Undoing
 pub mod Laws
 pub mod Eight
+pub mod WrapStep
+pub mod WrapSteps
+pub mod WrapInPlace
+pub mod WrapAnswered

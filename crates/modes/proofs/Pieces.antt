@@ -10,6 +10,7 @@ use Rattle.std.proofs.shelf.Lists.{append-nil, length-append, length-drop, leng
 use Rattle.std.proofs.shelf.Tests.{cases-lt}
 use Rattle.blocks.specs.Octets.{Octets, Sixteen}
 use Rattle.blocks.proofs.Numbers.{octets-append}
+use Rattle.blocks.proofs.Octetwise.{octets-take, octets-drop}
 use Rattle.modes.specs.Pieces.{cut, pieces, glue}
 
 pub pieces-more : (x : List ℕ) → 0 < length x → pieces x ≡ take 16 x ∷ pieces (drop 16 x)
@@ -34,14 +35,6 @@ glue-cut (suc n) x h =
 
 pub glue-pieces : (x : List ℕ) → glue (pieces x) ≡ x
 glue-pieces x = glue-cut ((length x + 15) / 16) x (omega arith)
-
-pub octets-drop : (n : ℕ) (x : List ℕ) → Octets x → Octets (drop n x)
-octets-drop n x o = λ k. rw (getD-drop n x k 0) (o (n + k))
-
-pub octets-take : (n : ℕ) (x : List ℕ) → Octets x → Octets (take n x)
-octets-take zero x o = λ k. lit< tt
-octets-take (suc n) [] o = o
-octets-take (suc n) (y ∷ x) o = λ k. elim k as (λ m. getD (y ∷ take n x) m 0 < 256) [ zero ↦ o 0 | suc m ↦ octets-take n x (λ j. o (suc j)) m ]
 
 -- A short piece.
 abbrev pub Part : List ℕ → Type 0

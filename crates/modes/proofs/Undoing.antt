@@ -10,7 +10,8 @@ use Rattle.blocks.specs.Octets.{Octets, Sixteen}
 use Rattle.modes.specs.Pieces.{pieces, glue}
 use Rattle.modes.specs.Rows.{Stream, streamed, Steal, stolen, stealing}
 use Rattle.modes.specs.Laws.{Undoes, Keeps, Apart}
-use Rattle.modes.proofs.Pieces.{Part, Pieced, pieces-more, pieces-pieced, pieces-glue, glue-pieces, octets-glue, octets-take, octets-drop}
+use Rattle.modes.proofs.Pieces.{Part, Pieced, pieces-more, pieces-pieced, pieces-glue, glue-pieces, octets-glue}
+use Rattle.blocks.proofs.Octetwise.{octets-take, octets-drop}
 use Rattle.modes.proofs.Rows.{stolen-whole, stolen-short}
 
 -- Where reading undoes writing, no two messages share a text.

@@ -6,11 +6,10 @@ use lib.Dec.{eqb, leb}
 use lib.ListN.{length, take, drop, replicate}
 use Rattle.std.specs.declared.result.Result.{Result}
 use Rattle.std.specs.declared.result.Result.the-variants.{Ok, Err}
-use Rattle.blocks.specs.Octets.{xorEach}
+use Rattle.blocks.specs.Octets.{xorEach, longest}
 use Rattle.blocks.specs.declared.answers.Refusal.{Refusal}
 use Rattle.blocks.specs.declared.answers.Refusal.the-variants.{LongMessage}
 use Rattle.modes.specs.Pieces.{pieces}
-use Rattle.modes.specs.Outcome.{longest}
 
 -- Of the four words of r: the last three, and then the mix of the first two. It marks a whole last piece.
 abbrev pub wholeMark : List ℕ → List ℕ

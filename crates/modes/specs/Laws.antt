@@ -4,7 +4,7 @@ use mathlib.Core.List.{List}
 use Prim.Native.Nat.{ℕ, _≤_}
 use lib.ListN.{length}
 use Rattle.blocks.specs.Octets.{Octets, Sixteen}
-use Rattle.blocks.specs.Steps.{Step, Reversible}
+use Rattle.blocks.specs.Steps.{Step, Reversible, Lands}
 use Rattle.modes.specs.Modes.{ecb, cbcEncrypt, cbcDecrypt, cfbEncrypt, cfbDecrypt, ctr}
 
 -- Reading undoes writing: every message of octets, at least so long, comes back.
@@ -19,10 +19,6 @@ Keeps least write = (x : List ℕ) → Octets x → least ≤ length x → (leng
 abbrev pub Apart : ℕ → (List ℕ → List ℕ) → Type 0
 Apart least write =
     (x y : List ℕ) → Octets x → Octets y → least ≤ length x → length x ≡ length y → write x ≡ write y → x ≡ y
-
--- f maps sixteen octets to sixteen octets.
-abbrev pub Lands : (List ℕ → List ℕ) → Type 0
-Lands f = (p : List ℕ) → Sixteen p → Sixteen (f p)
 
 -- ECB, over every reversible meaning: decryption undoes encryption.
 abbrev pub EcbDecryptUndoes : Type 0

@@ -4,3 +4,6 @@ pub mod Modes
 pub mod Outcome
 pub mod Checksum
 pub mod Laws
+pub mod Wrapping
+pub mod WrapAnswers
+pub mod WrapExact

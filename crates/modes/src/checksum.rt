@@ -3,10 +3,10 @@ ghost use mathlib.Core.Path.{_≡_};
 ghost use Prim.Native.Nat.{_<_, _≤_};
 ghost use lib.ListN.{length, take};
 ghost use Rattle.modes.specs.Checksum.{wholeMark, shortMark, padded, closed, checksum as sum, checksumAnswer};
-use crate::machine::LONGEST;
 use crate::parts::load;
 use blocks::Block;
 use blocks::Refusal;
+use blocks::octets::LONGEST;
 use blocks::octets::xor;
 
 // The eight octets that tell whether a message of at most 65,536 octets was changed.

@@ -2,7 +2,8 @@
 ghost use mathlib.Core.Path.{_≡_};
 ghost use lib.ListN.{length};
 ghost use Rattle.modes.specs.Modes.{ecb};
-ghost use Rattle.modes.specs.Outcome.{modeAnswer, written};
+ghost use Rattle.blocks.specs.Written.{written};
+ghost use Rattle.modes.specs.Outcome.{modeAnswer};
 ghost use Rattle.modes.specs.Laws.{EcbKeeps, EcbDecryptUndoes, EcbEncryptUndoes, EcbApart};
 use crate::machine::Mode;
 use crate::machine::apply;

@@ -1,4 +1,4 @@
-// The modes over any block, ECB, CBC, CFB and CTR, and the checksum.
+// The modes over any block, ECB, CBC, CFB and CTR, and the checksum; wrapping and unwrapping of key texts.
 pub mod cbc;
 pub mod cfb;
 pub mod checksum;
@@ -6,3 +6,5 @@ pub mod ctr;
 pub mod ecb;
 mod machine;
 mod parts;
+pub mod scratch;
+pub mod wrap;

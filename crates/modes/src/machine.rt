@@ -5,14 +5,13 @@ ghost use mathlib.Core.Logic.{_⊎_};
 ghost use Prim.Native.Nat.{ℕ, _+_, _-_, _%_, _<_, _≤_};
 ghost use lib.ListN.{length, take, drop};
 ghost use Rattle.blocks.specs.Steps.{Step};
-ghost use Rattle.modes.specs.Outcome.{modeAnswer, written};
+ghost use Rattle.blocks.specs.Written.{written};
+ghost use Rattle.modes.specs.Outcome.{modeAnswer};
 use crate::parts::load;
 use crate::parts::store;
 use blocks::Block;
 use blocks::Refusal;
-
-// The most octets of a message.
-pub(crate) const LONGEST: usize = 65_536;
+use blocks::octets::LONGEST;
 
 // A mode, and what it keeps from piece to piece.
 pub(crate) trait Mode {

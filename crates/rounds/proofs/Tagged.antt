@@ -19,7 +19,7 @@ use Rattle.blocks.specs.Fields.{field, number}
 use Rattle.blocks.specs.declared.answers.Refusal.{Refusal}
 use Rattle.blocks.specs.declared.answers.Refusal.the-variants.{TagLetters, TagChecksum, TagFields, OtherSite}
 use Rattle.blocks.proofs.Numbers.{number-field, field-number, number-lt, octets-part, octets-append, octets-field, listed}
-use Rattle.modes.specs.Laws.{Lands}
+use Rattle.blocks.specs.Steps.{Lands}
 use Rattle.modes.specs.Checksum.{checksum}
 use Rattle.modes.proofs.Eight.{checksum-eight}
 use Rattle.rounds.specs.Tags.{tagHead, tagLetters, issued, Issues}

@@ -6,7 +6,7 @@ ghost use Prim.Native.Nat.{ℕ};
 ghost use lib.Dec.{eqb};
 ghost use lib.ListN.{length, take};
 ghost use Rattle.std.specs.declared.option.Option.the-variants.{Some, None};
-ghost use Rattle.modes.specs.Outcome.{written};
+ghost use Rattle.blocks.specs.Written.{written};
 ghost use Rattle.rounds.specs.Tags.{tagHead, issued, issueAnswer};
 ghost use Rattle.rounds.specs.Checked.{tagParts, partsAnswer, tagAnswer, TagExact};
 use crate::same::same;

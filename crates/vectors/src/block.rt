@@ -55,20 +55,6 @@ fn worked_blocks() -> Result<(), Fail> {
 }
 
 #[test]
-fn expansions() -> Result<(), Fail> {
-    let key: [u8; 32] = octets(KEY_1)?;
-    check_eq(expand(&key)?, key)?;
-    check_eq(
-        expand(&key[0..16])?,
-        octets(b"E9DEE72C8F0C0FA62DDB49F46F739647E9DEE72C8F0C0FA62DDB49F46F739647")?,
-    )?;
-    check_eq(
-        expand(&key[0..24])?,
-        octets(b"E9DEE72C8F0C0FA62DDB49F46F73964706075316ED247A374B09A17E8450BF66")?,
-    )
-}
-
-#[test]
 fn short_keys_step_as_their_expansions() -> Result<(), Fail> {
     let key: [u8; 32] = octets(KEY_1)?;
     let p = octets(BLOCK_1)?;

@@ -2,8 +2,12 @@
 #[cfg(test)]
 mod block;
 #[cfg(test)]
+mod keys;
+#[cfg(test)]
 mod modes;
 #[cfg(test)]
 mod tags;
 #[cfg(test)]
 mod text;
+#[cfg(test)]
+mod wrapping;

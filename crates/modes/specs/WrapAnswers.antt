@@ -1,0 +1,33 @@
+-- What wrapping and unwrapping answer.
+use mathlib.Core.Bool.{Bool, true, false, cond, _&&_}
+use mathlib.Core.List.{List}
+use Prim.Native.Nat.{ℕ, _+_, _-_}
+use lib.Dec.{leb}
+use lib.ListN.{length, drop}
+use Rattle.std.specs.declared.result.Result.{Result}
+use Rattle.std.specs.declared.result.Result.the-variants.{Ok, Err}
+use Rattle.blocks.specs.Same.{same}
+use Rattle.blocks.specs.declared.answers.Refusal.{Refusal}
+use Rattle.blocks.specs.declared.answers.Refusal.the-variants.{ShortOutput, KeyTextLength, WrappedLength, HeaderDiffers}
+use Rattle.modes.specs.Wrapping.{unwrapped}
+
+-- The lengths of a key text: 16 to 256 octets.
+abbrev pub keyTextLength : ℕ → Bool
+keyTextLength n = leb 16 n && leb n 256
+
+-- Wrapping a key text of n octets: the length is a key text's, and the output has room for 16 octets more.
+abbrev pub wrapAnswer : ℕ → ℕ → Result ℕ Refusal
+wrapAnswer n room =
+    cond (keyTextLength n) (cond (leb (n + 16) room) (Ok (n + 16)) (Err ShortOutput)) (Err KeyTextLength)
+
+-- Unwrapping y, by a test of its length, of the room in output and scratch, and of the header.
+abbrev pub byTests : ℕ → ℕ → ℕ → Bool → Result ℕ Refusal
+byTests m scratch room agrees =
+    cond (leb 32 m && leb m 272)
+    (cond (leb (m - 16) room && leb 272 scratch) (cond agrees (Ok (m - 16)) (Err HeaderDiffers)) (Err ShortOutput))
+    (Err WrappedLength)
+
+-- The header agrees where the steps back leave it in the last sixteen octets.
+abbrev pub unwrapAnswer : (List ℕ → List ℕ) → List ℕ → List ℕ → ℕ → ℕ → Result ℕ Refusal
+unwrapAnswer f header y scratch room =
+    byTests (length y) scratch room (same (drop (length y - 16) (unwrapped f y)) header)
