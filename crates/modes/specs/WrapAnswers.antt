@@ -20,7 +20,7 @@ abbrev pub wrapAnswer : ℕ → ℕ → Result ℕ Refusal
 wrapAnswer n room =
     cond (keyTextLength n) (cond (leb (n + 16) room) (Ok (n + 16)) (Err ShortOutput)) (Err KeyTextLength)
 
--- Unwrapping y, by a test of its length, of the room in output and scratch, and of the header.
+-- Unwrapping a text of m octets: its length, then the room in output and scratch, then whether the header agrees.
 abbrev pub byTests : ℕ → ℕ → ℕ → Bool → Result ℕ Refusal
 byTests m scratch room agrees =
     cond (leb 32 m && leb m 272)
