@@ -1,9 +1,10 @@
 -- What wrapping and unwrapping answer.
+use mathlib.Core.Path.{_≡_}
 use mathlib.Core.Bool.{Bool, true, false, cond, _&&_}
 use mathlib.Core.List.{List}
-use Prim.Native.Nat.{ℕ, _+_, _-_}
+use Prim.Native.Nat.{ℕ, _+_, _-_, _≤_}
 use lib.Dec.{leb}
-use lib.ListN.{length, drop}
+use lib.ListN.{length, take, drop}
 use Rattle.std.specs.declared.result.Result.{Result}
 use Rattle.std.specs.declared.result.Result.the-variants.{Ok, Err}
 use Rattle.blocks.specs.Same.{same}
@@ -31,3 +32,8 @@ byTests m scratch room agrees =
 abbrev pub unwrapAnswer : (List ℕ → List ℕ) → List ℕ → List ℕ → ℕ → ℕ → Result ℕ Refusal
 unwrapAnswer f header y scratch room =
     byTests (length y) scratch room (same (drop (length y - 16) (unwrapped f y)) header)
+
+-- Accepted with n octets, the key text is so long, fits the room, and stands at the front of the scratch.
+abbrev pub Within : Result ℕ Refusal → List ℕ → List ℕ → ℕ → Type 0
+Within (Ok n) key scratch room = (take n scratch ≡ key) × (n ≤ room) × (n ≤ length scratch)
+Within (Err e) key scratch room = Unit {0}

@@ -7,7 +7,7 @@ ghost use Rattle.std.specs.Orderings.{Decides};
 ghost use Rattle.blocks.specs.Octets.{xorEach};
 ghost use Rattle.blocks.specs.Written.{written};
 ghost use Rattle.modes.specs.Wrapping.{mixedAll, wrapStep, unwrapStep, wrapSteps, unwrapSteps, rounds, wrapped, unwrapped};
-ghost use Rattle.modes.specs.WrapAnswers.{wrapAnswer, unwrapAnswer};
+ghost use Rattle.modes.specs.WrapAnswers.{wrapAnswer, unwrapAnswer, Within};
 ghost use Rattle.modes.specs.WrapExact.{UnwrapsExactly, WrapExact};
 use crate::parts::load;
 use crate::parts::store;
@@ -154,12 +154,30 @@ fn unwrap_in<B: Block>(
     ensures text { λ r. ⌜ now (out .exit) ≡ written r (take (length (now (text .entry)) - 16) (unwrapped (meaning (now (block .entry)) .image) (now (text .entry)))) (now (out .entry)) ⌝ }
     ensures same { λ _. ⌜ meaning (now (block .exit)) ≡ meaning (now (block .entry)) ⌝ }
 {
+    let n = unwrap_within(block, header, text, out.len(), scratch)?;
+    out[0..n].copy_from_slice(&scratch[0..n]);
+    Ok(n)
+}
+
+// Unwraps within the scratch, for a caller that goes on with the key text there and zeroes the scratch itself; `room` is what its own
+// output has for a key text. Accepted, the key text stands at the front of the scratch.
+pub fn unwrap_within<B: Block>(
+    block: &mut B,
+    header: [u8; 16],
+    text: &[u8],
+    room: usize,
+    scratch: &mut [u8],
+) -> Result<usize, Refusal>
+    ensures answer { λ r. ⌜ r ≡ unwrapAnswer (meaning (now (block .entry)) .image) header (now (text .entry)) (length (now (scratch .entry))) room ⌝ }
+    ensures key { λ r. ⌜ Within r (take (length (now (text .entry)) - 16) (unwrapped (meaning (now (block .entry)) .image) (now (text .entry)))) (now (scratch .exit)) room ⌝ }
+    ensures same { λ _. ⌜ meaning (now (block .exit)) ≡ meaning (now (block .entry)) ⌝ }
+{
     let size = text.len();
     if size < 32 || size > SCRATCH {
         return Err(Refusal::WrappedLength);
     }
     let length = size - 16;
-    if out.len() < length || scratch.len() < SCRATCH {
+    if room < length || scratch.len() < SCRATCH {
         return Err(Refusal::ShortOutput);
     }
     let work = &mut scratch[0..size];
@@ -168,7 +186,6 @@ fn unwrap_in<B: Block>(
     if !agree(load(work, length), header) {
         return Err(Refusal::HeaderDiffers);
     }
-    out[0..length].copy_from_slice(&work[0..length]);
     Ok(length)
 }
 

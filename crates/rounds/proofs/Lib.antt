@@ -1,2 +1,3 @@
 pub mod Joins
 pub mod Tagged
+pub mod Kitted

@@ -1,2 +1,4 @@
 pub mod Tags
 pub mod Checked
+pub mod Kits
+pub mod KitExact

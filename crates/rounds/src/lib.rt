@@ -1,3 +1,4 @@
-// A guard's rounds: tags at the doors.
+// A guard's rounds: tags at the doors, and the keys of a site.
+pub mod kit;
 mod same;
 pub mod tag;

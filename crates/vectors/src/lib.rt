@@ -4,6 +4,8 @@ mod block;
 #[cfg(test)]
 mod keys;
 #[cfg(test)]
+mod kit;
+#[cfg(test)]
 mod modes;
 #[cfg(test)]
 mod tags;

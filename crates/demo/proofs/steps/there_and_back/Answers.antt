@@ -1,7 +1,7 @@
 use mathlib.Core.Path.{_≡_}
 use borrow.Author.Needs.{needs}
 use Rattle.blocks.specs.Octets.{Sixteen}
-use Rattle.demo.proofs.there_and_back.Needs as need
+use Rattle.demo.proofs.steps.there_and_back.Needs as need
 
 pub returns : need.returns
 returns g c =
