@@ -1,0 +1,6 @@
+pub mod Rows
+pub mod Roads
+pub mod Steps
+pub mod Changes
+pub mod Kth
+pub mod Forms
