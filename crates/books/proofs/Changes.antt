@@ -126,7 +126,7 @@ take-step {T = T} cells cells′ c v first′ last′ s p en ev eg ef z nz =
     let h = r .1 in
     let el : last′ ≡ lastOf used =
     ⊎-elim (λ (e : first′ ≡ 0). z e ∙ left-none nx used (after nx u) (h .in-use .2) (sym ef ∙ e))
-    (λ (ne : first′ ≡ 0 → ⊥). let q : 0 < first′ = pos first′ ne in nz q ∙ h .parted .3 ∙ left-some nx used u (after nx u) (h .in-use .2) (omega (arith, ef)))
+    (λ (ne : first′ ≡ 0 → ⊥). let q : 0 < first′ = pos first′ ne in nz q ∙ h .parted .2 ∙ left-some nx used u (after nx u) (h .in-use .2) (omega (arith, ef)))
     (cases-eq first′ 0) in
     let c′ : Chain = record { first = first′; last = last′; free = u; count = c .count - 1 } in
     let P : List ℕ → Type 0 = λ m. Held m (shorter nx c last′) used (u ∷ rest) in
@@ -168,21 +168,21 @@ in-values cells c s x t =
     (k .0, omega (arith, k .1, length-map cells (λ y. y .next), length-map cells (λ y. y .value)))
 
 pub length-items : {T : Type 0} (cells : List (Cell T)) (c : Chain) → Sound cells c → length (items cells c) ≡ c .count
-length-items cells c s = length-joined (values cells) (numbers (nexts cells) (c .first)) (in-values cells c s) ∙ sym (s .4)
+length-items cells c s = length-joined (values cells) (numbers (nexts cells) (c .first)) (in-values cells c s) ∙ sym (s .3)
 
 pub within : {T : Type 0} (cells : List (Cell T)) (c : Chain) → Sound cells c → c .count ≤ length cells
-within cells c s = omega (arith, s .0, s .4, length-map cells (λ x. x .next))
+within cells c s = omega (arith, s .0, s .3, length-map cells (λ x. x .next))
 
 -- There is room exactly where a cell is free.
 pub full : {T : Type 0} (cells : List (Cell T)) (c : Chain) → Sound cells c → c .free ≡ 0 → length (items cells c) ≡ length cells
 full cells c s z =
     let e : length (numbers (nexts cells) (c .free)) ≡ 0 = rw z in
-    omega (arith, length-items cells c s, s .0, s .4, length-map cells (λ x. x .next))
+    omega (arith, length-items cells c s, s .0, s .3, length-map cells (λ x. x .next))
 
 pub room : {T : Type 0} (cells : List (Cell T)) (c : Chain) → Sound cells c → 0 < c .free → length (items cells c) < length cells
 room cells c s p =
     let r = free-held (nexts cells) c s p in
-    omega (arith, length-items cells c s, r .1 .parted .0, s .4, length-map cells (λ x. x .next))
+    omega (arith, length-items cells c s, r .1 .parted .0, s .3, length-map cells (λ x. x .next))
 
 -- The code's numbers are cells'.
 pub free-in : {T : Type 0} (cells : List (Cell T)) (c : Chain) → Sound cells c → 0 < c .free → c .free ≤ length cells
@@ -205,5 +205,5 @@ last-times (x ∷ (y ∷ ys)) h = let k = last-times (y ∷ ys) h in omega arith
 pub last-in : {T : Type 0} (cells : List (Cell T)) (c : Chain) → Sound cells c → 0 < c .last → c .last ≤ length cells
 last-in cells c s p =
     let used : List ℕ = numbers (nexts cells) (c .first) in
-    let t : 0 < times (lastOf used) used = last-times used (omega (arith, s .3)) in
-    omega (arith, in-values cells c s (lastOf used) t .1, s .3, length-map cells (λ x. x .value))
+    let t : 0 < times (lastOf used) used = last-times used (omega (arith, s .2)) in
+    omega (arith, in-values cells c s (lastOf used) t .1, s .2, length-map cells (λ x. x .value))

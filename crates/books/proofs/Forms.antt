@@ -8,13 +8,13 @@ use native.Mathlib.Omega.{arith}
 use lib.Dec.{eqb}
 use lib.ListN.{length}
 use Rattle.std.proofs.shelf.Lists.{length-map}
-use Rattle.std.proofs.shelf.Tests.{ne-eqb, eq-eqb, cond-true, cond-false, cases-eq}
+use Rattle.std.proofs.shelf.Tests.{ne-eqb, eq-eqb, cond-true, cond-false, cases-eq, cases-lt}
 use Rattle.books.specs.Walks.{after, put, times}
-use Rattle.books.specs.Chains.{nexts, Sound, Parted, mostCells}
+use Rattle.books.specs.Chains.{nexts, cellTimes, Sound, Parted, mostCells}
 use Rattle.books.specs.declared.links.Cell.{Cell}
 use Rattle.books.specs.declared.links.Chain.{Chain}
 use Rattle.books.proofs.Roads.{Road, length-put, after-put-same, road-put}
-use Rattle.books.proofs.Steps.{Held, sound}
+use Rattle.books.proofs.Steps.{Held, sound, cell-once, cell-past}
 
 -- The m numbers above n.
 abbrev pub above : ℕ → ℕ → List ℕ
@@ -52,6 +52,13 @@ times-among n (suc m) k h l =
     beyond : (k n : ℕ) → n < k → (k ≡ suc n → ⊥) → suc n < k
     beyond k n h ne = omega arith
 
+times-all : (n k : ℕ) → times k (above 0 n) ≡ cellTimes n k
+times-all n zero = times-below 0 n 0 (omega arith)
+times-all n (suc i) =
+    ⊎-elim (λ (l : n < suc i). times-past 0 n (suc i) (omega arith) ∙ sym (cell-past n (suc i) l))
+    (λ (l : suc i ≤ n). times-among 0 n (suc i) (omega arith) (omega arith) ∙ sym (cell-once n (suc i) (omega arith) l))
+    (cases-lt n (suc i))
+
 -- The cells above n are linked, each to the one after it, and the first of them is free.
 abbrev pub Formed : {T : Type 0} → List (Cell T) → ℕ → ℕ → Type 0
 Formed cells n free = Road (nexts cells) free (above n (length cells - n)) 0
@@ -86,8 +93,7 @@ formed-all {T = T} cells free few r =
     let Q : ℕ → Type 0 = λ j. Parted j c [] (above 0 n) in
     let p : Parted n c [] (above 0 n) = (
       omega (arith, length-above 0 n),
-      λ k l m. omega (arith, times-among 0 n k l (omega arith)),
-      λ k m. omega (arith, times-past 0 n k (omega arith)),
+      λ k. omega (arith, times-all n k),
       refl,
       refl,
       few,

@@ -35,7 +35,7 @@ come-at {T = T} cells c k n sd p l r =
     let nx : List ℕ = nexts cells in
     let used : List ℕ = numbers nx (c .first) in
     let s : ℕ = k - 1 in
-    let h : s < length used = omega (arith, sd .4) in
+    let h : s < length used = omega (arith, sd .3) in
     let P : List ℕ → Type 0 = λ xs. Road nx n xs 0 in
     let t : P (getD used s 0 ∷ drop (s + 1) used) = subst P (drop-more used s 0 h) r in
     let g = in-values cells c sd (getD used s 0) (times-getD used s h) in
@@ -77,5 +77,5 @@ kth-come cells c (suc i) n v s p l r e =
     let used : List ℕ = numbers (nexts cells) (c .first) in
     let a = come-at cells c (suc i) n s p l r in
     let j : suc i - 1 ≡ i = omega arith in
-    sym (kth-joined (values cells) used i v (in-values cells c s) (omega (arith, s .4))
+    sym (kth-joined (values cells) used i v (in-values cells c s) (omega (arith, s .3))
     (ap (λ m. valueOf (values cells) (getD used m 0)) (sym j) ∙ ap (λ m. valueOf (values cells) m) (sym (a .2)) ∙ e))

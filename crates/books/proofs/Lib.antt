@@ -4,3 +4,4 @@ pub mod Steps
 pub mod Changes
 pub mod Kth
 pub mod Forms
+pub mod Bound

@@ -5,12 +5,12 @@ use mathlib.Core.Bool.{cond}
 use mathlib.Core.Logic.{⊎-elim}
 use Prim.Native.Nat.{ℕ, zero, suc, _+_, _-_, _≤_, _<_}
 use native.Mathlib.Omega.{arith}
-use lib.Dec.{eqb}
+use lib.Dec.{eqb, ltb}
 use lib.ListN.{length}
 use Rattle.std.proofs.shelf.Lists.{length-append}
-use Rattle.std.proofs.shelf.Tests.{ne-eqb, cond-false, cases-lt}
+use Rattle.std.proofs.shelf.Tests.{ne-eqb, cond-true, cond-false, le-ltb, lt-ltb, cases-lt}
 use Rattle.books.specs.Walks.{after, put, numbers, times, lastOf}
-use Rattle.books.specs.Chains.{Parted, SoundAt}
+use Rattle.books.specs.Chains.{cellTimes, Parted, SoundAt}
 use Rattle.books.specs.declared.links.Chain.{Chain}
 use Rattle.books.proofs.Roads.{Road, road-walk, walk-road, length-put, after-put-other, after-put-same, times-append, times-here, times-none, road-put, road-append, road-cut, split-last, lastOf-push}
 
@@ -40,10 +40,22 @@ module _ (nx : List ℕ) (c : Chain) (used rest : List ℕ) (h : Held nx c used 
       let Q : List ℕ → Type 0 = λ r. Parted (length nx) c (numbers nx (c .first)) r in
       subst Q (sym rest-is) (subst P (sym used-is) (h .parted))
 
+pub cell-once : (n k : ℕ) → 0 < k → k ≤ n → cellTimes n k ≡ 1
+cell-once n zero l m = absurd (omega arith)
+cell-once n (suc i) l m = cond-true (ltb i n) 1 0 (lt-ltb i n m)
+
+pub cell-past : (n k : ℕ) → n < k → cellTimes n k ≡ 0
+cell-past n zero l = refl
+cell-past n (suc i) l = cond-false (ltb i n) 1 0 (le-ltb i n (omega arith))
+
 -- A number that stands on a chain is a cell's.
 pub in-range : (n : ℕ) (c : Chain) (used rest : List ℕ) → Parted n c used rest → (k : ℕ) → 0 < times k used + times k rest → k ≤ n
 in-range n c used rest p k t =
-    ⊎-elim (λ (l : n < k). absurd (omega (arith, p .2 k l))) (λ (l : k ≤ n). l) (cases-lt n k)
+    ⊎-elim (λ (l : n < k). absurd (omega (arith, p .1 k, cell-past n k l))) (λ (l : k ≤ n). l) (cases-lt n k)
+
+-- And a cell stands on exactly one of them.
+pub on-one : (n : ℕ) (c : Chain) (used rest : List ℕ) → Parted n c used rest → (k : ℕ) → 0 < k → k ≤ n → times k used + times k rest ≡ 1
+on-one n c used rest p k l m = p .1 k ∙ cell-once n k l m
 
 -- A chain begins with its first cell, and has a last one where it has any.
 pub road-first : (nx xs : List ℕ) (n : ℕ) → Road nx n xs 0 → 0 < n → (ys : List ℕ) × (xs ≡ n ∷ ys)
@@ -74,7 +86,7 @@ module _ (nx : List ℕ) (c : Chain) where
       let l : 0 < f = h .unused .1 in
       let b : times f (f ∷ rest) ≡ 1 + times f rest = times-here f rest in
       let r : f ≤ length nx = in-range (length nx) c used (f ∷ rest) (h .parted) f (omega arith) in
-      let o : times f used + times f (f ∷ rest) ≡ 1 = h .parted .1 f l r in
+      let o : times f used + times f (f ∷ rest) ≡ 1 = on-one (length nx) c used (f ∷ rest) (h .parted) f l r in
       (l, r, omega arith, omega arith)
 
   -- The chain afterwards, from its first cell.
@@ -86,11 +98,10 @@ module _ (nx : List ℕ) (c : Chain) where
       let f : ℕ = c .free in
       let a : length (used ++ f ∷ []) ≡ length used + 1 = length-append used (f ∷ []) in (
         omega (arith, p .0),
-        λ k l m. (let t : times k (used ++ f ∷ []) ≡ times k used + times k (f ∷ []) = times-append k used (f ∷ []) in omega (arith, p .1 k l m)),
-        λ k m. (let t : times k (used ++ f ∷ []) ≡ times k used + times k (f ∷ []) = times-append k used (f ∷ []) in omega (arith, p .2 k m)),
+        λ k. (let t : times k (used ++ f ∷ []) ≡ times k used + times k (f ∷ []) = times-append k used (f ∷ []) in omega (arith, p .1 k)),
         sym (lastOf-push used f),
-        omega (arith, p .4),
-        p .5,
+        omega (arith, p .3),
+        p .4,
       )
 
   pub add-first : (used rest : List ℕ) → Held nx c used (c .free ∷ rest) → c .last ≡ 0 → Held (put nx (c .free) 0) (longer (c .free)) (used ++ c .free ∷ []) rest
@@ -104,7 +115,7 @@ module _ (nx : List ℕ) (c : Chain) where
         parted = subst P (sym (length-put nx f 0)) (add-parted (length nx) f [] rest (h .parted));
       }
   add-first (x ∷ xs) rest h z =
-      absurd (omega (arith, last-pos nx (x ∷ xs) (c .first) 0 (h .in-use) (omega arith), h .parted .3))
+      absurd (omega (arith, last-pos nx (x ∷ xs) (c .first) 0 (h .in-use) (omega arith), h .parted .2))
 
   add-more-at : (front rest : List ℕ) → Held nx c (front ++ c .last ∷ []) (c .free ∷ rest) →
       Held (put (put nx (c .free) 0) (c .last) (c .free)) (longer (c .first)) ((front ++ c .last ∷ []) ++ c .free ∷ []) rest
@@ -117,7 +128,7 @@ module _ (nx : List ℕ) (c : Chain) where
       let a : times e used ≡ times e front + times e (e ∷ []) = times-append e front (e ∷ []) in
       let b : times e (e ∷ []) ≡ 1 + 0 = times-here e [] in
       let r : e ≤ length nx = in-range (length nx) c used (f ∷ rest) (h .parted) e (omega arith) in
-      let o : times e used + times e (f ∷ rest) ≡ 1 = h .parted .1 e (k .1) r in
+      let o : times e used + times e (f ∷ rest) ≡ 1 = on-one (length nx) c used (f ∷ rest) (h .parted) e (k .1) r in
       let d = times-none e f rest (omega arith) in
       let g : times f used ≡ times f front + times f (e ∷ []) = times-append f front (e ∷ []) in
       let nx₁ : List ℕ = put nx f 0 in
@@ -138,10 +149,10 @@ module _ (nx : List ℕ) (c : Chain) where
 
   pub add-more : (used rest : List ℕ) → Held nx c used (c .free ∷ rest) → 0 < c .last →
       Held (put (put nx (c .free) 0) (c .last) (c .free)) (longer (c .first)) (used ++ c .free ∷ []) rest
-  add-more [] rest h p = absurd (omega (arith, h .parted .3))
+  add-more [] rest h p = absurd (omega (arith, h .parted .2))
   add-more (x ∷ xs) rest h p =
       let s = split-last (x ∷ xs) (omega arith) in
-      let e : x ∷ xs ≡ s .0 ++ c .last ∷ [] = s .1 ∙ ap (λ y. s .0 ++ y ∷ []) (sym (h .parted .3)) in
+      let e : x ∷ xs ≡ s .0 ++ c .last ∷ [] = s .1 ∙ ap (λ y. s .0 ++ y ∷ []) (sym (h .parted .2)) in
       let P : List ℕ → Type 0 = λ u. Held nx c u (c .free ∷ rest) in
       let Q : List ℕ → Type 0 = λ u. Held (put (put nx (c .free) 0) (c .last) (c .free)) (longer (c .first)) (u ++ c .free ∷ []) rest in
       subst Q (sym e) (add-more-at (s .0) rest (subst P e h))
@@ -154,7 +165,7 @@ module _ (nx : List ℕ) (c : Chain) where
       let l : 0 < u = h .in-use .1 in
       let b : times u (u ∷ used) ≡ 1 + times u used = times-here u used in
       let r : u ≤ length nx = in-range (length nx) c (u ∷ used) rest (h .parted) u (omega arith) in
-      let o : times u (u ∷ used) + times u rest ≡ 1 = h .parted .1 u l r in
+      let o : times u (u ∷ used) + times u rest ≡ 1 = on-one (length nx) c (u ∷ used) rest (h .parted) u l r in
       (l, r, omega arith, omega arith)
 
   -- The chain afterwards, with its last cell.
@@ -163,7 +174,7 @@ module _ (nx : List ℕ) (c : Chain) where
 
   take-parted : (n last : ℕ) (used rest : List ℕ) → Parted n c (c .first ∷ used) rest → last ≡ lastOf used → Parted n (shorter last) used (c .first ∷ rest)
   take-parted n last used rest p e =
-      (omega (arith, p .0), λ k l m. omega (arith, p .1 k l m), λ k m. omega (arith, p .2 k m), e, omega (arith, p .4), p .5)
+      (omega (arith, p .0), λ k. omega (arith, p .1 k), e, omega (arith, p .3), p .4)
 
   pub take-held : (last : ℕ) (used rest : List ℕ) → Held nx c (c .first ∷ used) rest → last ≡ lastOf used → Held (put nx (c .first) (c .free)) (shorter last) used (c .first ∷ rest)
   take-held last used rest h e =

@@ -1,7 +1,9 @@
 -- Two chains over cells: every cell is used or free.
 use mathlib.Core.Path.{_≡_}
 use mathlib.Core.List.{List, map}
-use Prim.Native.Nat.{ℕ, _+_, _<_, _≤_}
+use mathlib.Core.Bool.{cond}
+use Prim.Native.Nat.{ℕ, zero, suc, _+_, _≤_}
+use lib.Dec.{ltb}
 use lib.ListN.{length}
 use Rattle.std.specs.shelf.Lists.{joined}
 use Rattle.books.specs.Walks.{valueOf, numbers, times, lastOf}
@@ -22,21 +24,17 @@ values cells = map (λ c. c .value) cells
 abbrev pub items : {T : Type 0} → List (Cell T) → Chain → List T
 items cells chain = joined (valueOf (values cells)) (numbers (nexts cells) (chain .first))
 
--- Each of n cells lies on exactly one of two chains, and once.
-abbrev pub OnOneChain : ℕ → List ℕ → List ℕ → Type 0
-OnOneChain n used free = (k : ℕ) → 0 < k → k ≤ n → times k used + times k free ≡ 1
+-- How often a number stands on two chains that part n cells: once if it is a cell's, that is from 1 to n, and else never.
+abbrev pub cellTimes : ℕ → ℕ → ℕ
+cellTimes n zero = 0
+cellTimes n (suc i) = cond (ltb i n) 1 0
 
--- Nothing but those n cells lies on either.
-abbrev pub OnlyCells : ℕ → List ℕ → List ℕ → Type 0
-OnlyCells n used free = (k : ℕ) → n < k → times k used + times k free ≡ 0
-
--- The used and the free chain part n cells between them: both come to their ends, each cell lies on exactly one of them, the used
--- one's last and count are known, and there are not too many cells.
+-- The used and the free chain part n cells between them: both come to their ends, each cell stands on exactly one of them, once, and
+-- nothing else does; the used one's last cell and its length are known; and there are not too many cells.
 abbrev pub Parted : ℕ → Chain → List ℕ → List ℕ → Type 0
 Parted n chain used free =
     (length used + length free ≡ n)
-    × OnOneChain n used free
-    × OnlyCells n used free
+    × ((k : ℕ) → times k used + times k free ≡ cellTimes n k)
     × (chain .last ≡ lastOf used)
     × (chain .count ≡ length used)
     × (n ≤ mostCells)

@@ -1,5 +1,5 @@
-// Lists in cells of fixed memory: the chain of records over a slice, and the book over cells that the caller lends.
-
+// Lists in fixed memory: the chain of records over a slice of cells, and the book over cells that the caller lends.
+pub mod book;
 pub mod links;
 
 pub use links::Cell;
