@@ -9,7 +9,7 @@ use Rattle.std.specs.shelf.Lists.{joined}
 use Rattle.std.proofs.shelf.Lists.{joined-more, length-map, length-append}
 use Rattle.std.proofs.shelf.Tests.{cases-eq}
 use Rattle.books.specs.Walks.{after, put, numbers, times, lastOf, valueOf}
-use Rattle.books.specs.Chains.{nexts, values, items, Sound, SoundAt}
+use Rattle.books.specs.Chains.{nexts, values, items, Sound, SoundAt, mostCells}
 use Rattle.books.specs.declared.links.Cell.{Cell}
 use Rattle.books.specs.declared.links.Chain.{Chain}
 use Rattle.books.proofs.Roads.{times-none, times-here}
@@ -170,8 +170,9 @@ in-values cells c s x t =
 pub length-items : {T : Type 0} (cells : List (Cell T)) (c : Chain) → Sound cells c → length (items cells c) ≡ c .count
 length-items cells c s = length-joined (values cells) (numbers (nexts cells) (c .first)) (in-values cells c s) ∙ sym (s .3)
 
-pub within : {T : Type 0} (cells : List (Cell T)) (c : Chain) → Sound cells c → c .count ≤ length cells
-within cells c s = omega (arith, s .0, s .3, length-map cells (λ x. x .next))
+pub within : {T : Type 0} (cells : List (Cell T)) (c : Chain) → Sound cells c → (c .count ≤ length cells) × (length cells ≤ mostCells)
+within cells c s =
+    let e : length (nexts cells) ≡ length cells = length-map cells (λ x. x .next) in (omega (arith, s .0, s .3), omega (arith, s .4))
 
 -- There is room exactly where a cell is free.
 pub full : {T : Type 0} (cells : List (Cell T)) (c : Chain) → Sound cells c → c .free ≡ 0 → length (items cells c) ≡ length cells

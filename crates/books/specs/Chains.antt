@@ -9,11 +9,17 @@ use Rattle.std.specs.shelf.Lists.{joined}
 use Rattle.books.specs.Walks.{valueOf, numbers, times, lastOf}
 use Rattle.books.specs.declared.links.Cell.{Cell}
 use Rattle.books.specs.declared.links.Chain.{Chain}
+use Rattle.books.specs.declared.links.Full.{Full}
 
 -- The most cells that two chains are laid over.
 abbrev pub mostCells : ℕ
 mostCells = 4096
 
+-- The answer that no cell is free.
+abbrev pub noneFree : Full
+noneFree = record {}
+
+-- The next numbers and the elements, cell by cell.
 abbrev pub nexts : {T : Type 0} → List (Cell T) → List ℕ
 nexts cells = map (λ c. c .next) cells
 

@@ -6,7 +6,7 @@ ghost use mathlib.Core.List.{[], _∷_};
 ghost use mathlib.Core.Path.{_≡_};
 ghost use Prim.Native.Nat.{_<_, _≤_};
 ghost use lib.ListN.{length};
-ghost use Rattle.books.specs.Chains.{nexts, values, items, Sound, mostCells};
+ghost use Rattle.books.specs.Chains.{nexts, values, items, Sound, mostCells, noneFree};
 ghost use Rattle.books.specs.Lists.{Adds, Takes, kth};
 ghost use Rattle.books.specs.Walks.{after, put, valueOf};
 
@@ -108,7 +108,7 @@ pub fn form<T: Copy>(cells: &mut [Cell<T>]) -> Chain
 pub fn add_last<T: Copy>(cells: &mut [Cell<T>], chain: &mut Chain, value: T) -> Result<(), Full>
     requires { ⌜ Sound (now cells) (now chain) ⌝ }
     ensures sound { λ _. ⌜ Sound (now (cells .exit)) (now (chain .exit)) ⌝ }
-    ensures added { λ r. ⌜ Adds (length (now (cells .entry))) (record {}) (items (now (cells .entry)) (now (chain .entry))) value (items (now (cells .exit)) (now (chain .exit))) r ⌝ }
+    ensures added { λ r. ⌜ Adds (length (now (cells .entry))) noneFree (items (now (cells .entry)) (now (chain .entry))) value (items (now (cells .exit)) (now (chain .exit))) r ⌝ }
 {
     let n = chain.free;
     if n == 0 {
@@ -167,7 +167,7 @@ pub fn read<T: Copy>(cells: &[Cell<T>], chain: &Chain, k: usize) -> Option<T>
 pub fn len<T: Copy>(cells: &[Cell<T>], chain: &Chain) -> usize
     requires { ⌜ Sound (now cells) (now chain) ⌝ }
     ensures count { λ r. ⌜ r ≡ length (items (now (cells .entry)) (now (chain .entry))) ⌝ }
-    ensures within { λ r. ⌜ r ≤ length (now (cells .entry)) ⌝ }
+    ensures within { λ r. ⌜ r ≤ length (now (cells .entry)) ⌝ ∗ ⌜ length (now (cells .entry)) ≤ mostCells ⌝ }
 {
     chain.count as usize
 }

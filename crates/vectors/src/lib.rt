@@ -2,4 +2,6 @@
 #[cfg(test)]
 mod block;
 #[cfg(test)]
+mod books;
+#[cfg(test)]
 mod text;

@@ -1,7 +1,7 @@
 // What can be done with a book. No call requires anything, and a refusal leaves the book as it was.
 ghost use mathlib.Core.List.{[]};
 ghost use mathlib.Core.Path.{_≡_};
-ghost use Prim.Native.Nat.{_-_, _≤_, min};
+ghost use Prim.Native.Nat.{_+_, _≤_, min};
 ghost use lib.ListN.{length, take};
 ghost use Rattle.blocks.specs.declared.answers.Refusal.the-variants.{TooFewCells};
 ghost use Rattle.books.specs.Books.{elements, capacity, EachOnOneChain};
@@ -54,7 +54,7 @@ impl<T: Copy> Parts<'_, T> {
     fn len(&self) -> usize
         requires { ⌜ SoundParts (now self) ⌝ }
         ensures count { λ r. ⌜ r ≡ length (contents (now (self .entry))) ⌝ }
-        ensures within { λ r. ⌜ r ≤ room (now (self .entry)) ⌝ }
+        ensures within { λ r. ⌜ r ≤ room (now (self .entry)) ⌝ ∗ ⌜ room (now (self .entry)) ≤ mostCells ⌝ }
     {
         links::len(self.cells, &self.chain)
     }
@@ -113,14 +113,15 @@ impl<'a, T: Copy> Book<'a, T> {
 
     // How many elements there are.
     pub fn len(&self) -> usize
-        ensures { λ r. ⌜ r ≡ length (elements (now (self .entry))) ⌝ }
+        ensures count { λ r. ⌜ r ≡ length (elements (now (self .entry))) ⌝ }
+        ensures within { λ r. ⌜ r ≤ capacity (now (self .entry)) ⌝ ∗ ⌜ capacity (now (self .entry)) ≤ mostCells ⌝ }
     {
         self.parts.len()
     }
 
     // How many more there is room for.
     pub fn free(&self) -> usize
-        ensures { λ r. ⌜ r ≡ capacity (now (self .entry)) - length (elements (now (self .entry))) ⌝ }
+        ensures { λ r. ⌜ r + length (elements (now (self .entry))) ≡ capacity (now (self .entry)) ⌝ }
     {
         self.parts.cells.len() - self.parts.len()
     }
