@@ -2,4 +2,5 @@
 pub mod book;
 pub mod links;
 
+pub use book::Book;
 pub use links::Cell;

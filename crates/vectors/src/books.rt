@@ -6,8 +6,8 @@ ghost use Rattle.std.specs.declared.option.Option.the-variants.{Some};
 use blocks::Refusal;
 use blocks::answers::RefusalDebug;
 use blocks::answers::RefusalPartialEq;
+use books::Book;
 use books::Cell;
-use books::book::Book;
 use std::test::*;
 
 // What a caller can prove from the contracts alone: of two elements, the second is left when the first was taken.
