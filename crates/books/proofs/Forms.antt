@@ -14,7 +14,7 @@ use Rattle.books.specs.Chains.{nexts, cellTimes, Sound, Parted, mostCells}
 use Rattle.books.specs.declared.links.Cell.{Cell}
 use Rattle.books.specs.declared.links.Chain.{Chain}
 use Rattle.books.proofs.Roads.{Road, length-put, after-put-same, road-put}
-use Rattle.books.proofs.Steps.{Held, sound, cell-once, cell-past}
+use Rattle.books.proofs.Steps.{sound, cell-once, cell-past}
 
 -- The m numbers above n.
 abbrev pub above : ℕ → ℕ → List ℕ

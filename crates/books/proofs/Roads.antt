@@ -1,14 +1,13 @@
 -- Walks as roads: the numbers met from a start to an end, without a count of steps.
-use mathlib.Core.Path.{_≡_, refl, sym, _∙_, ap, subst}
-use mathlib.Core.List.{List, [], _∷_, _++_, append-assoc}
-use mathlib.Core.Bool.{cond, true, false}
-use mathlib.Core.Logic.{_⊎_, inl, inr, _≢_}
-use Prim.Native.Nat.{ℕ, zero, suc, _+_, _-_, _≤_, _<_}
+use mathlib.Core.Path.{_≡_, refl, sym, ap, subst}
+use mathlib.Core.List.{List, [], _∷_, _++_}
+use mathlib.Core.Bool.{cond}
+use Prim.Native.Nat.{ℕ, zero, suc, _+_, _≤_, _<_}
 use native.Mathlib.Omega.{arith}
-use lib.ListN.{length, getD, set}
-use lib.Dec.{eqb, ltb}
-use Rattle.std.proofs.shelf.Lists.{getD-set-same, getD-set-other, length-set, length-append}
-use Rattle.std.proofs.shelf.Tests.{eq-eqb, cond-true, cond-false, le-ltb, lt-ltb, cases-lt}
+use lib.ListN.{length, getD}
+use lib.Dec.{eqb}
+use Rattle.std.proofs.shelf.Lists.{getD-set-same, getD-set-other, length-set}
+use Rattle.std.proofs.shelf.Tests.{eq-eqb, cond-true}
 use Rattle.books.specs.Walks.{after, put, walk, numbers, times, lastOf}
 
 -- From n by the numbers of the list, all of them cells, to e.

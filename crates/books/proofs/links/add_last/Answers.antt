@@ -1,7 +1,6 @@
 use native.Mathlib.Omega.{arith}
 use mathlib.Core.Path.{refl, _∙_, ap}
 use Prim.Native.Nat.{_<_}
-use lib.ListN.{length}
 use Rattle.books.specs.Walks.{put}
 use Rattle.books.specs.Chains.{nexts, values}
 use Rattle.books.proofs.Changes.{Grown, ended, add-first-step, add-more-step, full, room, free-in, last-in}
