@@ -4,9 +4,11 @@ use mathlib.Core.List.{List, [], _∷_, _++_}
 use Prim.Native.Nat.{ℕ, zero, suc, _+_, _-_, _≤_, _<_}
 use native.Mathlib.Omega.{arith}
 use lib.ListN.{length, getD, drop}
+use Rattle.std.specs.Finite.{nth}
 use Rattle.std.specs.declared.option.Option.the-variants.{Some, None}
 use Rattle.std.specs.shelf.Lists.{joined}
 use Rattle.std.proofs.shelf.Lists.{drop-more, length-map}
+use Rattle.std.proofs.shelf.Maps.{nth-past}
 use Rattle.books.specs.Walks.{after, numbers, times, valueOf}
 use Rattle.books.specs.Chains.{nexts, values, items, Sound}
 use Rattle.books.specs.Lists.{kth}
@@ -48,28 +50,23 @@ come-at {T = T} cells c k n sd p l r =
       subst R e (subst Q (sym (t .0)) (t .2)),
     )
 
-kth-skip : {A : Type 0} (l m : List A) (i : ℕ) → length l ≡ 1 → kth (l ++ m) (suc (suc i)) ≡ kth m (suc i)
-kth-skip [] m i h = absurd (omega arith)
-kth-skip (x ∷ []) m i h = refl
-kth-skip (x ∷ (y ∷ ys)) m i h = absurd (omega arith)
+-- A cell's element stands in the list where its number stands on the chain.
+nth-skip : {A : Type 0} (l m : List A) (i : ℕ) → length l ≡ 1 → nth (l ++ m) (suc i) ≡ nth m i
+nth-skip [] m i h = absurd (omega arith)
+nth-skip (x ∷ []) m i h = refl
+nth-skip (x ∷ (y ∷ ys)) m i h = absurd (omega arith)
 
-kth-joined : {A : Type 0} (vs : List A) (xs : List ℕ) (s : ℕ) (v : A) → ((x : ℕ) → 0 < times x xs → (0 < x) × (x ≤ length vs)) → s < length xs → valueOf vs (getD xs s 0) ≡ v ∷ [] → kth (joined (valueOf vs) xs) (suc s) ≡ Some v
-kth-joined vs [] s v h l e = absurd (omega arith)
-kth-joined vs (x ∷ xs) zero v h l e = ap (λ w. kth (w ++ joined (valueOf vs) xs) 1) e
-kth-joined vs (x ∷ xs) (suc s) v h l e =
+nth-joined : {A : Type 0} (vs : List A) (xs : List ℕ) (s : ℕ) (v : A) → ((x : ℕ) → 0 < times x xs → (0 < x) × (x ≤ length vs)) → s < length xs → valueOf vs (getD xs s 0) ≡ v ∷ [] → nth (joined (valueOf vs) xs) s ≡ Some v
+nth-joined vs [] s v h l e = absurd (omega arith)
+nth-joined vs (x ∷ xs) zero v h l e = ap (λ w. nth (w ++ joined (valueOf vs) xs) 0) e
+nth-joined vs (x ∷ xs) (suc s) v h l e =
     let k = h x (omega (arith, times-here x xs)) in
-    kth-skip (valueOf vs x) (joined (valueOf vs) xs) s (one-value vs x (k .0) (k .1))
-    ∙ kth-joined vs xs s v (λ y t. h y (omega arith)) (omega arith) e
-
-pub kth-zero : {A : Type 0} (xs : List A) → None ≡ kth xs 0
-kth-zero [] = refl
-kth-zero (x ∷ xs) = refl
+    nth-skip (valueOf vs x) (joined (valueOf vs) xs) s (one-value vs x (k .0) (k .1))
+    ∙ nth-joined vs xs s v (λ y t. h y (omega arith)) (omega arith) e
 
 pub kth-past : {A : Type 0} (xs : List A) (k : ℕ) → length xs < k → None ≡ kth xs k
-kth-past [] k h = refl
-kth-past (x ∷ xs) zero h = absurd (omega arith)
-kth-past (x ∷ xs) (suc zero) h = absurd (omega arith)
-kth-past (x ∷ xs) (suc (suc i)) h = kth-past xs (suc i) (omega arith)
+kth-past xs zero h = refl
+kth-past xs (suc i) h = sym (nth-past xs i (omega arith))
 
 pub kth-come : {T : Type 0} (cells : List (Cell T)) (c : Chain) (k n : ℕ) (v : T) → Sound cells c → 0 < k → k ≤ c .count → Come cells c k n → valueOf (values cells) n ≡ v ∷ [] → Some v ≡ kth (items cells c) k
 kth-come cells c zero n v s p l r e = absurd (omega arith)
@@ -77,5 +74,5 @@ kth-come cells c (suc i) n v s p l r e =
     let used : List ℕ = numbers (nexts cells) (c .first) in
     let a = come-at cells c (suc i) n s p l r in
     let j : suc i - 1 ≡ i = omega arith in
-    sym (kth-joined (values cells) used i v (in-values cells c s) (omega (arith, s .3))
+    sym (nth-joined (values cells) used i v (in-values cells c s) (omega (arith, s .3))
     (ap (λ m. valueOf (values cells) (getD used m 0)) (sym j) ∙ ap (λ m. valueOf (values cells) m) (sym (a .2)) ∙ e))

@@ -3,10 +3,11 @@ use mathlib.Core.Path.{_≡_}
 use mathlib.Core.List.{List, [], _∷_, _++_}
 use Prim.Native.Nat.{ℕ, zero, suc, _<_}
 use lib.ListN.{length}
+use Rattle.std.specs.Finite.{nth}
 use Rattle.std.specs.Options
 use Rattle.std.specs.Results
 use Rattle.std.specs.declared.option.Option.{Option}
-use Rattle.std.specs.declared.option.Option.the-variants.{Some, None}
+use Rattle.std.specs.declared.option.Option.the-variants.{None}
 use Rattle.std.specs.declared.result.Result.{Result}
 
 -- An element goes to the end of a list that has room for one more; a full list answers that it is full, and stays as it was.
@@ -23,7 +24,5 @@ Takes before after answer =
 
 -- The k-th of a list, from 1; none at 0, and none past the end.
 abbrev pub kth : {A : Type 0} → List A → ℕ → Option A
-kth [] k = None
-kth (x ∷ xs) zero = None
-kth (x ∷ xs) (suc zero) = Some x
-kth (x ∷ xs) (suc (suc i)) = kth xs (suc i)
+kth xs zero = None
+kth xs (suc i) = nth xs i

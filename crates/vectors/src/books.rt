@@ -1,7 +1,8 @@
 // The book: books of no, one, 4,096 and 5,000 cells, cells that serve again, and refusals that change nothing.
 ghost use mathlib.Core.Path.{_≡_};
-ghost use Prim.Native.Nat.{_≤_};
-ghost use lib.ListN.{length};
+ghost use Prim.Native.Nat.{_≤_, min};
+ghost use lib.ListN.{length, take};
+ghost use Rattle.books.specs.Books.{elements};
 ghost use Rattle.std.specs.declared.option.Option.the-variants.{Some};
 use blocks::Refusal;
 use blocks::answers::RefusalDebug;
@@ -32,11 +33,30 @@ fn free_of_sixteen(a: u32) -> usize
     book.free()
 }
 
+// Copies elements out, first to last, until there is no more room or no further element; answers how many.
+fn copy_out(book: &Book<u32>, out: &mut [u32]) -> usize
+    ensures copied { λ r. ⌜ take r (now (out .exit)) ≡ take r (elements (now (book .entry))) ⌝ }
+    ensures count { λ r. ⌜ r ≡ min (length (now (out .exit))) (length (elements (now (book .entry)))) ⌝ }
+{
+    for i in 0..out.len() {
+        let Some(element) = book.read(i + 1) else {
+            return i;
+        };
+        out[i] = element;
+    }
+    out.len()
+}
+
 #[test]
 fn proved_callers() -> Result<(), Fail> {
     let mut cells = [Cell::new(0); 2];
     check_eq(second_of_two(&mut cells, 5, 6), Some(6))?;
-    check_eq(free_of_sixteen(5), 15)
+    check_eq(free_of_sixteen(5), 15)?;
+    let mut book = Book::new(&mut cells);
+    check_eq(book.add_last(8), Ok(()))?;
+    let mut out = [0; 3];
+    check_eq(copy_out(&book, &mut out), 1)?;
+    check_eq(out, [8, 0, 0])
 }
 
 #[test]

@@ -4,7 +4,7 @@ use Prim.Native.Nat.{ℕ, _+_}
 use Rattle.books.specs.Lists.{kth}
 use Rattle.books.specs.Chains.{items}
 use Rattle.books.proofs.Changes.{length-items}
-use Rattle.books.proofs.Kth.{Come, come-first, come-at, kth-zero, kth-past, kth-come}
+use Rattle.books.proofs.Kth.{Come, come-first, come-at, kth-past, kth-come}
 use Rattle.books.proofs.links.read.Needs as need
 use Rattle.books.proofs.links.read.Needs.{then-k-eq0·by·then-k-eq0, then-k-eq0·by·else-k-eq0·then-k-chain}
 
@@ -12,7 +12,7 @@ pub returns-then-k-eq0 : need.returns-then-k-eq0
 returns-then-k-eq0 g c =
     let xs = items (c .args .cells .now) (c .args .chain .now) in
     elim (c .then-k-eq0 .came) [
-      | then-k-eq0·by·then-k-eq0 w ↦ kth-zero xs ∙ ap (kth xs) (sym (w .if-k-eq0 .taken))
+      | then-k-eq0·by·then-k-eq0 w ↦ ap (kth xs) (sym (w .if-k-eq0 .taken))
       | then-k-eq0·by·else-k-eq0·then-k-chain w ↦
           kth-past xs (c .args .k) (omega (arith, length-items (c .args .cells .now) (c .args .chain .now) (c .pre), w .if-k-chain .taken))
     ]
