@@ -2,6 +2,8 @@
 #[cfg(test)]
 mod block;
 #[cfg(test)]
+mod books;
+#[cfg(test)]
 mod keys;
 #[cfg(test)]
 mod kit;
