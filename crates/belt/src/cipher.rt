@@ -251,24 +251,48 @@ pub impl Block for BeltBlock as BeltSteps {
         store(swap_backward(s))
     }
 
-    // The two chains of rounds do not wait for each other.
+    // The two chains of rounds do not wait for each other. The rounds are written out, so that each has its keys at fixed places.
     fn forward_two(&mut self, p: [u8; 16], q: [u8; 16]) -> ([u8; 16], [u8; 16]) {
-        let mut s = load(p);
-        let mut t = load(q);
-        for i in 0..8 {
-            s = self.round_forward::<2>(i + 1, s);
-            t = self.round_forward::<3>(i + 1, t);
-        }
+        let s = load(p);
+        let t = load(q);
+        let s = self.round_forward::<2>(1, s);
+        let t = self.round_forward::<3>(1, t);
+        let s = self.round_forward::<4>(2, s);
+        let t = self.round_forward::<5>(2, t);
+        let s = self.round_forward::<6>(3, s);
+        let t = self.round_forward::<7>(3, t);
+        let s = self.round_forward::<8>(4, s);
+        let t = self.round_forward::<9>(4, t);
+        let s = self.round_forward::<10>(5, s);
+        let t = self.round_forward::<11>(5, t);
+        let s = self.round_forward::<12>(6, s);
+        let t = self.round_forward::<13>(6, t);
+        let s = self.round_forward::<14>(7, s);
+        let t = self.round_forward::<15>(7, t);
+        let s = self.round_forward::<16>(8, s);
+        let t = self.round_forward::<17>(8, t);
         (store(swap_forward(s)), store(swap_forward(t)))
     }
 
     fn backward_two(&mut self, c: [u8; 16], d: [u8; 16]) -> ([u8; 16], [u8; 16]) {
-        let mut s = load(c);
-        let mut t = load(d);
-        for i in (0..8).rev() {
-            s = self.round_backward::<4>(i + 1, s);
-            t = self.round_backward::<5>(i + 1, t);
-        }
+        let s = load(c);
+        let t = load(d);
+        let s = self.round_backward::<18>(8, s);
+        let t = self.round_backward::<19>(8, t);
+        let s = self.round_backward::<20>(7, s);
+        let t = self.round_backward::<21>(7, t);
+        let s = self.round_backward::<22>(6, s);
+        let t = self.round_backward::<23>(6, t);
+        let s = self.round_backward::<24>(5, s);
+        let t = self.round_backward::<25>(5, t);
+        let s = self.round_backward::<26>(4, s);
+        let t = self.round_backward::<27>(4, t);
+        let s = self.round_backward::<28>(3, s);
+        let t = self.round_backward::<29>(3, t);
+        let s = self.round_backward::<30>(2, s);
+        let t = self.round_backward::<31>(2, t);
+        let s = self.round_backward::<32>(1, s);
+        let t = self.round_backward::<33>(1, t);
         (store(swap_backward(s)), store(swap_backward(t)))
     }
 }
