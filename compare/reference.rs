@@ -1,9 +1,9 @@
 //! BelT once more, as docs/ALGORITHMS.md says it and with no thought of speed: octet strings in, octet strings out.
 //! It shares nothing with the proved crates, so that a mistake in one shows against the other.
 
-type Octets = Vec<u8>;
+pub type Octets = Vec<u8>;
 
-const H: [u8; 256] = [
+pub const H: [u8; 256] = [
     0xB1, 0x94, 0xBA, 0xC8, 0x0A, 0x08, 0xF5, 0x3B, 0x36, 0x6D, 0x00, 0x8E, 0x58, 0x4A, 0x5D, 0xE4, //
     0x85, 0x04, 0xFA, 0x9D, 0x1B, 0xB6, 0xC7, 0xAC, 0x25, 0x2E, 0x72, 0xC2, 0x02, 0xFD, 0xCE, 0x0D, //
     0x5B, 0xE3, 0xD6, 0x12, 0x17, 0xB9, 0x61, 0x81, 0xFE, 0x67, 0x86, 0xAD, 0x71, 0x6B, 0x89, 0x0B, //
@@ -53,15 +53,10 @@ fn field(mut number: u128, n: usize) -> Octets {
 }
 
 fn g(r: u32, u: u32) -> u32 {
-    let x: Vec<u8> = u.to_le_bytes().iter().map(|o| H[*o as usize]).collect();
-    word(&x).rotate_left(r)
+    word(&u.to_le_bytes().map(|o| H[o as usize])).rotate_left(r)
 }
 
-pub fn key_length(n: usize) -> bool {
-    n == 16 || n == 24 || n == 32
-}
-
-pub fn expand(key: &[u8]) -> Octets {
+fn expand(key: &[u8]) -> Octets {
     match key.len() {
         16 => join(&[key, key]),
         24 => {
