@@ -1,29 +1,25 @@
-// The hash, the expansion and the transformation of keys: worked examples and refusals.
+// The hash, the expansion and the transformation of keys: further examples and refusals.
+use crate::text::HEADER;
+use crate::text::KEY;
 use crate::text::all;
 use crate::text::is;
 use crate::text::put;
-use crate::text::sixteen;
-use crate::text::thirty_two;
 use belt::hash::hash;
 use belt::keys::expand;
 use belt::transform::transform;
 use blocks::Refusal;
+use blocks::answers::RefusalDebug;
 use blocks::answers::RefusalPartialEq;
 use std::test::*;
 
 // The text of the examples.
 fn text() -> [u8; 48] {
     let mut octets = [0; 48];
-    put(
+    let _ = put(
         &mut octets,
         b"B194BAC80A08F53B366D008E584A5DE48504FA9D1BB6C7AC252E72C202FDCE0D5BE3D61217B96181FE6786AD716B890B",
     );
     octets
-}
-
-// The key of the examples.
-fn key() -> [u8; 32] {
-    thirty_two(b"E9DEE72C8F0C0FA62DDB49F46F73964706075316ED247A3739CBA38303A98BF6")
 }
 
 // Whether the first octets of the text have this hash.
@@ -40,18 +36,6 @@ fn hashes(n: usize, digits: &[u8]) -> bool {
 
 #[test]
 fn hashes_of_examples() -> Result<(), Fail> {
-    check(hashes(
-        13,
-        b"ABEF9725D4C5A83597A367D14494CC2542F20F659DDFECC961A3EC550CBA8C75",
-    ))?;
-    check(hashes(
-        32,
-        b"749E4C3653AECE5E48DB4761227742EB6DBE13F4A80F7BEFF1A9CF8D10EE7786",
-    ))?;
-    check(hashes(
-        48,
-        b"9D02EE446FB6A29FE5C982D4B13AF9D3E90861BC4CEF27CF306BFB0B174A154A",
-    ))?;
     check(hashes(
         0,
         b"EB6BA8BDE3821909B63E14764485530FD8E875A23834D41D6C100AC446828C7E",
@@ -92,41 +76,12 @@ fn hash_of_a_longer_message_is_refused() -> Result<(), Fail> {
     }
 }
 
-// Whether the key's first octets are expanded to these.
-fn expands(n: usize, digits: &[u8]) -> bool {
-    let key = key();
-    if n > 32 {
-        return false;
-    }
-    match expand(&key[0..n]) {
-        Ok(x) => is(&x, digits),
-        Err(_) => false,
-    }
-}
-
 #[test]
-fn expansions_of_examples() -> Result<(), Fail> {
-    check(expands(
-        16,
-        b"E9DEE72C8F0C0FA62DDB49F46F739647E9DEE72C8F0C0FA62DDB49F46F739647",
-    ))?;
-    check(expands(
-        24,
-        b"E9DEE72C8F0C0FA62DDB49F46F73964706075316ED247A374B09A17E8450BF66",
-    ))?;
-    check(expands(
-        32,
-        b"E9DEE72C8F0C0FA62DDB49F46F73964706075316ED247A3739CBA38303A98BF6",
-    ))?;
-    Ok(())
-}
-
-#[test]
-fn no_other_key_is_expanded() -> Result<(), Fail> {
-    let key = key();
+fn only_keys_are_expanded() -> Result<(), Fail> {
+    check(expand(&KEY)? == KEY)?;
     for n in 0..33 {
         if n != 16 && n != 24 && n != 32 {
-            match expand(&key[0..n]) {
+            match expand(&KEY[0..n]) {
                 Ok(_) => return Err(Fail::new("accepted")),
                 Err(e) => check(e == Refusal::KeyLength)?,
             }
@@ -137,18 +92,13 @@ fn no_other_key_is_expanded() -> Result<(), Fail> {
 
 const LEVEL: [u8; 12] = [1, 0, 0, 0, 0, 0, 0, 0, 0, 0, 0, 0];
 
-fn header() -> [u8; 16] {
-    sixteen(b"5BE3D61217B96181FE6786AD716B890B")
-}
-
 // Whether the key's first octets are transformed to a new key of so many, with the output past it as it was.
 fn transforms(length: usize, new_length: usize, digits: &[u8]) -> bool {
-    let key = key();
     if length > 32 || new_length > 40 {
         return false;
     }
     let mut out = [7u8; 40];
-    match transform(&key[0..length], LEVEL, header(), new_length, &mut out) {
+    match transform(&KEY[0..length], LEVEL, HEADER, new_length, &mut out) {
         Ok(n) => n == new_length && is(&out[0..new_length], digits) && all(&out[new_length..40], 7),
         Err(_) => false,
     }
@@ -161,11 +111,10 @@ fn refused(length: usize, new_length: usize, room: usize, reason: Refusal) -> bo
 }
 
 fn refused_in(out: &mut [u8], length: usize, new_length: usize, reason: Refusal) -> bool {
-    let key = key();
     if length > 32 {
         return false;
     }
-    match transform(&key[0..length], LEVEL, header(), new_length, out) {
+    match transform(&KEY[0..length], LEVEL, HEADER, new_length, out) {
         Ok(_) => false,
         Err(e) => e == reason && all(out, 7),
     }
@@ -173,13 +122,6 @@ fn refused_in(out: &mut [u8], length: usize, new_length: usize, reason: Refusal)
 
 #[test]
 fn transformations_of_examples() -> Result<(), Fail> {
-    check(transforms(32, 16, b"6BBBC2336670D31AB83DAA90D52C0541"))?;
-    check(transforms(32, 24, b"9A2532A18CBAF145398D5A95FEEA6C825B9C197156A00275"))?;
-    check(transforms(
-        32,
-        32,
-        b"76E166E6AB21256B6739397B672B879614B81CF05955FC3AB09343A745C48F77",
-    ))?;
     check(transforms(24, 16, b"7FF05FCD94E1807C1C6B5261D0D81344"))?;
     check(transforms(24, 24, b"4CD188D7BE1062201C77ED850699619B70CCE9ADDECC4B87"))?;
     check(transforms(16, 16, b"D67F7A00AD71AE2944DEB53C8646D27A"))?;

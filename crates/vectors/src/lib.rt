@@ -14,4 +14,6 @@ mod tags;
 #[cfg(test)]
 mod text;
 #[cfg(test)]
+mod worked;
+#[cfg(test)]
 mod wrapping;

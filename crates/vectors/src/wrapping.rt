@@ -1,9 +1,8 @@
-// Wrapping and unwrapping over the BelT block: worked examples, every length, refusals, and the scratch.
+// Wrapping and unwrapping over the BelT block: further examples, every length, refusals, and the scratch.
+use crate::text::HEADER;
+use crate::text::KEY;
 use crate::text::all;
 use crate::text::is;
-use crate::text::put;
-use crate::text::sixteen;
-use crate::text::thirty_two;
 use belt::BeltBlock;
 use belt::cipher::BeltSteps;
 use blocks::Refusal;
@@ -11,15 +10,6 @@ use blocks::answers::RefusalPartialEq;
 use modes::wrap::unwrap;
 use modes::wrap::wrap;
 use std::test::*;
-
-// The key and the header of the first example.
-fn key() -> [u8; 32] {
-    thirty_two(b"E9DEE72C8F0C0FA62DDB49F46F73964706075316ED247A3739CBA38303A98BF6")
-}
-
-fn header() -> [u8; 16] {
-    sixteen(b"5BE3D61217B96181FE6786AD716B890B")
-}
 
 // A key text to take the first octets of.
 fn sample() -> [u8; 256] {
@@ -32,35 +22,22 @@ fn sample() -> [u8; 256] {
 
 // Whether a key text is wrapped to these octets, with the output past them as it was.
 fn wraps(key_text: &[u8], digits: &[u8]) -> bool {
-    let Ok(mut block) = BeltBlock::new(&key()) else {
+    let Ok(mut block) = BeltBlock::new(&KEY) else {
         return false;
     };
     let mut out = [7u8; 288];
-    match wrap(&mut block, header(), key_text, &mut out) {
+    match wrap(&mut block, HEADER, key_text, &mut out) {
         Ok(n) => n <= 288 && is(&out[0..n], digits) && all(&out[n..288], 7),
-        Err(_) => false,
-    }
-}
-
-// Whether a text is unwrapped to these octets, with the output past them as it was and the scratch zeroed.
-fn unwraps(key: [u8; 32], header: [u8; 16], text: &[u8], digits: &[u8]) -> bool {
-    let Ok(mut block) = BeltBlock::new(&key) else {
-        return false;
-    };
-    let mut scratch = [7u8; 300];
-    let mut out = [7u8; 272];
-    match unwrap(&mut block, header, text, &mut scratch, &mut out) {
-        Ok(n) => n <= 272 && is(&out[0..n], digits) && all(&out[n..272], 7) && all(&scratch, 0),
         Err(_) => false,
     }
 }
 
 // Whether wrapping is refused for this reason, with the output as it was.
 fn wrap_refused(key_text: &[u8], out: &mut [u8], reason: Refusal) -> bool {
-    let Ok(mut block) = BeltBlock::new(&key()) else {
+    let Ok(mut block) = BeltBlock::new(&KEY) else {
         return false;
     };
-    match wrap(&mut block, header(), key_text, out) {
+    match wrap(&mut block, HEADER, key_text, out) {
         Ok(_) => false,
         Err(e) => e == reason && all(out, 7),
     }
@@ -81,10 +58,10 @@ fn refused(text: &[u8], scratch_room: usize, room: usize, reason: Refusal) -> bo
 }
 
 fn refused_in(text: &[u8], scratch: &mut [u8], out: &mut [u8], reason: Refusal) -> bool {
-    let Ok(mut block) = BeltBlock::new(&key()) else {
+    let Ok(mut block) = BeltBlock::new(&KEY) else {
         return false;
     };
-    match unwrap(&mut block, header(), text, scratch, out) {
+    match unwrap(&mut block, HEADER, text, scratch, out) {
         Ok(_) => false,
         Err(e) => e == reason && all(out, 7) && all(scratch, 0),
     }
@@ -92,11 +69,11 @@ fn refused_in(text: &[u8], scratch: &mut [u8], out: &mut [u8], reason: Refusal) 
 
 // Whether a key text comes back from its wrapping, 16 octets longer.
 fn comes_back(key_text: &[u8]) -> bool {
-    let Ok(mut block) = BeltBlock::new(&key()) else {
+    let Ok(mut block) = BeltBlock::new(&KEY) else {
         return false;
     };
     let mut wrapped = [7u8; 272];
-    let Ok(size) = wrap(&mut block, header(), key_text, &mut wrapped) else {
+    let Ok(size) = wrap(&mut block, HEADER, key_text, &mut wrapped) else {
         return false;
     };
     let mut scratch = [7u8; 272];
@@ -106,7 +83,7 @@ fn comes_back(key_text: &[u8]) -> bool {
     }
     match unwrap(
         &mut block,
-        header(),
+        HEADER,
         &wrapped[0..size],
         &mut scratch,
         &mut out,
@@ -125,9 +102,9 @@ fn wrapped(length: usize) -> [u8; 272] {
     let sample = sample();
     let mut out = [7u8; 272];
     if length <= 256
-        && let Ok(mut block) = BeltBlock::new(&key())
+        && let Ok(mut block) = BeltBlock::new(&KEY)
     {
-        let _ = wrap(&mut block, header(), &sample[0..length], &mut out);
+        let _ = wrap(&mut block, HEADER, &sample[0..length], &mut out);
     }
     out
 }
@@ -143,31 +120,6 @@ fn flips_refused(text: &mut [u8]) -> bool {
         text[k] ^= 1;
     }
     true
-}
-
-#[test]
-fn wrap_of_the_example() -> Result<(), Fail> {
-    let key_text = thirty_two(b"B194BAC80A08F53B366D008E584A5DE48504FA9D1BB6C7AC252E72C202FDCE0D");
-    check(wraps(
-        &key_text,
-        b"49A38EE108D6C742E52B774F00A6EF98B106CBD13EA4FB0680323051BC04DF76E487B055C69BCF541176169F1DC9F6C8",
-    ))
-}
-
-#[test]
-fn unwrap_of_the_example() -> Result<(), Fail> {
-    let mut text = [0; 48];
-    put(
-        &mut text,
-        b"E12BDC1AE28257EC703FCCF095EE8DF1C1AB76389FE678CAF7C6F860D5BB9C4FF33C657B637C306ADD4EA7799EB23D31",
-    );
-    let key = thirty_two(b"92BD9B1CE5D141015445FBC95E4D0EF2682080AA227D642F2687F93490405511");
-    check(unwraps(
-        key,
-        sixteen(b"B5EF68D8E4A39E567153DE13D72254EE"),
-        &text,
-        b"92632EE0C21AD9E09A39343E5C07DAA4889B03F2E6847EB152EC99F7A4D9F154",
-    ))
 }
 
 #[test]
@@ -257,11 +209,11 @@ fn works_in(room: usize) -> bool {
 
 fn accepted_in(scratch: &mut [u8]) -> bool {
     let text = wrapped(20);
-    let Ok(mut block) = BeltBlock::new(&key()) else {
+    let Ok(mut block) = BeltBlock::new(&KEY) else {
         return false;
     };
     let mut out = [7u8; 20];
-    match unwrap(&mut block, header(), &text[0..36], scratch, &mut out) {
+    match unwrap(&mut block, HEADER, &text[0..36], scratch, &mut out) {
         Ok(n) => n == 20 && all(scratch, 0),
         Err(_) => false,
     }
