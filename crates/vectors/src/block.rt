@@ -36,6 +36,15 @@ fn takes<B: Block>(block: &mut B, p: [u8; 16], c: [u8; 16]) -> Result<(), Fail> 
 }
 
 #[test]
+fn two_blocks_at_a_time() -> Result<(), Fail> {
+    takes(
+        &mut BeltBlock::new(&KEY)?,
+        octets(b"B194BAC80A08F53B366D008E584A5DE4")?,
+        octets(b"69CCA1C93557C9E3D66BC3E0FA88FA6E")?,
+    )
+}
+
+#[test]
 fn short_keys_step_as_their_expansions() -> Result<(), Fail> {
     let p = [7; 16];
     for n in [16, 24] {
