@@ -1,7 +1,7 @@
 // Two chains over a slice of cells: the used ones, first to last, and the free ones.
 //
-// An inner interface, for types of this product that hold cells and chain together and keep them sound: the book here, and records in
-// other crates. All else goes through those types, whose calls require nothing.
+// Inside this crate only, for types that hold cells and chain together and keep them sound, as the book does. All else goes through those
+// types, whose calls require nothing.
 ghost use mathlib.Core.List.{[], _∷_};
 ghost use mathlib.Core.Path.{_≡_};
 ghost use Prim.Native.Nat.{_<_, _≤_};
@@ -84,7 +84,7 @@ fn fill<T: Copy>(cells: &mut [Cell<T>], n: u16, value: T)
 }
 
 // Links all the cells into the free chain, whatever they held.
-pub fn form<T: Copy>(cells: &mut [Cell<T>]) -> Chain
+pub(crate) fn form<T: Copy>(cells: &mut [Cell<T>]) -> Chain
     requires { ⌜ length (now cells) ≤ mostCells ⌝ }
     ensures sound { λ r. ⌜ Sound (now (cells .exit)) r ⌝ }
     ensures empty { λ r. ⌜ items (now (cells .exit)) r ≡ [] ⌝ }
@@ -105,7 +105,11 @@ pub fn form<T: Copy>(cells: &mut [Cell<T>]) -> Chain
 }
 
 // Fills the first free cell, and links it behind the last used one.
-pub fn add_last<T: Copy>(cells: &mut [Cell<T>], chain: &mut Chain, value: T) -> Result<(), Full>
+pub(crate) fn add_last<T: Copy>(
+    cells: &mut [Cell<T>],
+    chain: &mut Chain,
+    value: T,
+) -> Result<(), Full>
     requires { ⌜ Sound (now cells) (now chain) ⌝ }
     ensures sound { λ _. ⌜ Sound (now (cells .exit)) (now (chain .exit)) ⌝ }
     ensures added { λ r. ⌜ Adds (length (now (cells .entry))) noneFree (items (now (cells .entry)) (now (chain .entry))) value (items (now (cells .exit)) (now (chain .exit))) r ⌝ }
@@ -127,7 +131,7 @@ pub fn add_last<T: Copy>(cells: &mut [Cell<T>], chain: &mut Chain, value: T) -> 
 }
 
 // Unlinks the first used cell, and links it before the first free one.
-pub fn take_first<T: Copy>(cells: &mut [Cell<T>], chain: &mut Chain) -> Option<T>
+pub(crate) fn take_first<T: Copy>(cells: &mut [Cell<T>], chain: &mut Chain) -> Option<T>
     requires { ⌜ Sound (now cells) (now chain) ⌝ }
     ensures sound { λ _. ⌜ Sound (now (cells .exit)) (now (chain .exit)) ⌝ }
     ensures taken { λ r. ⌜ Takes (items (now (cells .entry)) (now (chain .entry))) (items (now (cells .exit)) (now (chain .exit))) r ⌝ }
@@ -149,7 +153,7 @@ pub fn take_first<T: Copy>(cells: &mut [Cell<T>], chain: &mut Chain) -> Option<T
 }
 
 // The k-th element, from 1.
-pub fn read<T: Copy>(cells: &[Cell<T>], chain: &Chain, k: usize) -> Option<T>
+pub(crate) fn read<T: Copy>(cells: &[Cell<T>], chain: &Chain, k: usize) -> Option<T>
     requires { ⌜ Sound (now cells) (now chain) ⌝ }
     ensures { λ r. ⌜ r ≡ kth (items (now (cells .entry)) (now (chain .entry))) k ⌝ }
 {
@@ -164,7 +168,7 @@ pub fn read<T: Copy>(cells: &[Cell<T>], chain: &Chain, k: usize) -> Option<T>
 }
 
 // How many elements there are.
-pub fn len<T: Copy>(cells: &[Cell<T>], chain: &Chain) -> usize
+pub(crate) fn len<T: Copy>(cells: &[Cell<T>], chain: &Chain) -> usize
     requires { ⌜ Sound (now cells) (now chain) ⌝ }
     ensures count { λ r. ⌜ r ≡ length (items (now (cells .entry)) (now (chain .entry))) ⌝ }
     ensures within { λ r. ⌜ r ≤ length (now (cells .entry)) ⌝ ∗ ⌜ length (now (cells .entry)) ≤ mostCells ⌝ }
