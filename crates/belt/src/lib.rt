@@ -1,4 +1,6 @@
 // BelT: the block cipher with keys of 16, 24 and 32 octets, the expansion and the transformation of keys, and the hash.
+#![tactic(auto)]
+
 pub mod cipher;
 pub mod hash;
 pub mod keys;

@@ -1,9 +1,9 @@
 // Why a call refuses, and the number that says so.
-ghost use Rattle.std.specs.Prelude.{◌≡◌, Decides};
+ghost use Rattle.std.specs.Prelude.{◌≡◌, ◌↔◌, ◌==◌, IsTrue};
 ghost use Rattle.blocks.specs.Answers.{refusal_number, answer_number, NumbersApart};
 ghost use Rattle.std.specs.Cmp.Rules.{comparing};
 ghost use Rattle.std.proofs.Common.{rules};
-ghost use Rattle.std.specs.Cmp as Keys;
+ghost use Rattle.std.specs.Ordering.{on};
 
 // Every refusal of the product. The tens say whose hand is behind it: the door, the guard, the firmware, the office, the key room.
 #[derive(Clone, Copy, Debug)]
@@ -77,11 +77,14 @@ impl Refusal {
 }
 
 impl PartialEq for Refusal {
-    ghost equals = { λ x y r. Decides r (x ≡ y) };
+    ghost eq = { on refusal_number ◌==◌ };
 
-    ghost laws = { Keys.partial_equiv_from_equiv (Prim.search (comparing, rules)) };
+    ghost laws = { Prim.search (comparing, rules) };
 
-    fn eq(&self, other: &Refusal) -> bool {
+    fn eq(&self, other: &Refusal) -> bool
+        ensures numbers { result ≡ (refusal_number self.now == refusal_number other.now) }
+        ensures same { IsTrue result ↔ (self.now ≡ other.now) }
+    {
         self.number() == other.number()
     }
 }

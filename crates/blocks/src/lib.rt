@@ -1,4 +1,6 @@
 // What everything else stands on: octets, the product's refusals, and blocks by their meaning.
+#![tactic(auto)]
+
 ghost use Rattle.std.specs.Prelude.{◌≡◌};
 ghost use Rattle.blocks.specs.Steps.{Step, Reversible, OnePreimage};
 ghost use Rattle.blocks.specs.Fields.{FieldsUndo};

@@ -1,5 +1,7 @@
 // What stands so far, from beginning to end: a block, the modes, the keys of a site, and the tags at its doors.
 // Arguments: a key of 16, 24 or 32 octets and a block, in upper-case hexadecimal digits; without them, a worked example.
+#![tactic(auto)]
+
 mod doors;
 mod steps;
 mod texts;

@@ -1,4 +1,6 @@
 // Octets in hexadecimal digits: reading and showing.
+#![tactic(auto)]
+
 ghost use Rattle.std.specs.Prelude.{◌≡◌, ℕ, ◌+◌, ◌*◌, ◌/◌, ◌%◌, ◌<◌, ◌≤◌, true, length, drop, slice_index};
 ghost use Rattle.hexadecimal.specs.Digits.{is_digit, digit_value, all_digits, octet_at};
 ghost use Rattle.hexadecimal.specs.Parsed.{parse_answer, Parsed};

@@ -1,4 +1,6 @@
 // The modes over any block, ECB, CBC, CFB and CTR, and the checksum; wrapping and unwrapping of key texts.
+#![tactic(auto)]
+
 pub mod cbc;
 pub mod cfb;
 pub mod checksum;

@@ -1,4 +1,6 @@
 // Reports: what a wand seals of its visits, and how the office opens it.
+#![tactic(auto)]
+
 ghost use Rattle.reports.specs.Cases.{EmptySealed, OddLengths};
 
 mod body;

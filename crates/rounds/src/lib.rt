@@ -1,4 +1,6 @@
 // A guard's rounds: tags at the doors, and the keys of a site.
+#![tactic(auto)]
+
 pub mod kit;
 mod same;
 pub mod tag;

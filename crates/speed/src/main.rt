@@ -1,5 +1,7 @@
 // Steps BelT many times over its own answers, so that a script can time it beside another implementation.
 // Arguments: one, back, two or backtwo, and how many times; without them, a thousand times each way.
+#![tactic(auto)]
+
 use anyhow::anyhow;
 use belt::BeltBlock;
 use blocks::Block;

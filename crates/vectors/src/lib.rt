@@ -1,4 +1,6 @@
 // Examples that run: each module holds the tests of one part, through its public calls.
+#![tactic(auto)]
+
 #[cfg(test)]
 mod block;
 #[cfg(test)]

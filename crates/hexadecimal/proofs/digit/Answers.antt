@@ -3,8 +3,8 @@ use Rattle.std.proofs.lemmas.Bool.Decides.{nat_tests}
 use Rattle.hexadecimal.proofs.Each.{digit_at, digit_low, digit-high}
 use Rattle.hexadecimal.proofs.digit.Goals as goal
 
-pub overflow-sub-result : goal.overflow-sub-result
-overflow-sub-result c =
+pub overflow_sub-result : goal.overflow_sub-result
+overflow_sub-result c =
     let t = c.args.text.now in
     digit_low (get_or t c.args.at 0) (digit_at t c.requires.1 c.args.at c.requires.0)
 

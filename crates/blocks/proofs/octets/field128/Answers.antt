@@ -5,4 +5,4 @@ use Rattle.blocks.proofs.octets.field128.Goals as goal
 pub returns : goal.returns
 returns c =
     let fits : c.args.n < 256 ^ 16 = search rules in
-    record { value = writes 15 _ _ fits c.to-le-bytes.ensures; undone = writes-back 15 _ _ fits c.to-le-bytes.ensures }
+    record { value = writes 15 _ _ fits c.to_le_bytes.ensures; undone = writes-back 15 _ _ fits c.to_le_bytes.ensures }

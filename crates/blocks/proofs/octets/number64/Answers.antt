@@ -9,5 +9,5 @@ returns c =
     let x = c.args.octets in
     let long : length x ≡ 8 = search rules in
     let octet : Octets x = λ k. search rules in
-    let sum : c.from-le-bytes.result ≡ number (part 0 8 x) = omega (arith, c.from-le-bytes.ensures) in
+    let sum : c.from_le_bytes.result ≡ number (part 0 8 x) = omega (arith, c.from_le_bytes.ensures) in
     record { value = reads 8 _ x long octet sum; undone = reads-back 8 _ x long octet sum }
