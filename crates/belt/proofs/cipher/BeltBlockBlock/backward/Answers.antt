@@ -13,6 +13,6 @@ loop-i-preserved c =
 
 pub returns : goal.returns
 returns c = record {
-  answer = down-all _ _ _ _ _ _ _ c.load-s.ensures c.loop-i.invariant (omega arith) c.swap-backward.ensures c.store.ensures;
+  answer = down-all _ _ _ _ _ _ _ c.load-s.ensures c.loop-i.invariant (omega arith) c.swap_backward.ensures c.store.ensures;
   same = refl;
 }

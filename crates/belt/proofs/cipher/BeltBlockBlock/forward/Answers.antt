@@ -10,6 +10,6 @@ loop-i-preserved c = let e = up_more c.args.self.now.key c.loop-i.i c.load-s.res
 
 pub returns : goal.returns
 returns c = record {
-  answer = up-all _ _ _ _ _ _ _ c.load-s.ensures c.loop-i.invariant (omega arith) c.swap-forward.ensures c.store.ensures;
+  answer = up-all _ _ _ _ _ _ _ c.load-s.ensures c.loop-i.invariant (omega arith) c.swap_forward.ensures c.store.ensures;
   same = refl;
 }
