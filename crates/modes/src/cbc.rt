@@ -95,8 +95,8 @@ pub fn cbc_encrypt<B: Block>(
     out: &mut [u8],
 ) -> Result<usize, Refusal>
     ensures answer { result ≡ mode_answer 16 (length message.now) (length out.old) }
-    ensures text { out.new ≡ written result (cbc_encrypt (meaning block.old).image start message.now) out.old }
-    ensures same { meaning block.new ≡ meaning block.old }
+    ensures text { out.new ≡ written result (cbc_encrypt (B.meaning block.old).image start message.now) out.old }
+    ensures same { B.meaning block.new ≡ B.meaning block.old }
     ensures keeps { CbcKeeps }
     ensures undone { CbcDecryptUndoes }
     ensures apart { CbcApart }
@@ -112,8 +112,8 @@ pub fn cbc_decrypt<B: Block>(
     out: &mut [u8],
 ) -> Result<usize, Refusal>
     ensures answer { result ≡ mode_answer 16 (length message.now) (length out.old) }
-    ensures text { out.new ≡ written result (cbc_decrypt (meaning block.old).preimage start message.now) out.old }
-    ensures same { meaning block.new ≡ meaning block.old }
+    ensures text { out.new ≡ written result (cbc_decrypt (B.meaning block.old).preimage start message.now) out.old }
+    ensures same { B.meaning block.new ≡ B.meaning block.old }
     ensures keeps { CbcKeeps }
     ensures undone { CbcEncryptUndoes }
 {

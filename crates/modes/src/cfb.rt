@@ -90,8 +90,8 @@ pub fn cfb_encrypt<B: Block>(
     out: &mut [u8],
 ) -> Result<usize, Refusal>
     ensures answer { result ≡ mode_answer 0 (length message.now) (length out.old) }
-    ensures text { out.new ≡ written result (cfb_encrypt (meaning block.old).image start message.now) out.old }
-    ensures same { meaning block.new ≡ meaning block.old }
+    ensures text { out.new ≡ written result (cfb_encrypt (B.meaning block.old).image start message.now) out.old }
+    ensures same { B.meaning block.new ≡ B.meaning block.old }
     ensures keeps { CfbKeeps }
     ensures undone { CfbDecryptUndoes }
     ensures apart { CfbApart }
@@ -107,8 +107,8 @@ pub fn cfb_decrypt<B: Block>(
     out: &mut [u8],
 ) -> Result<usize, Refusal>
     ensures answer { result ≡ mode_answer 0 (length message.now) (length out.old) }
-    ensures text { out.new ≡ written result (cfb_decrypt (meaning block.old).image start message.now) out.old }
-    ensures same { meaning block.new ≡ meaning block.old }
+    ensures text { out.new ≡ written result (cfb_decrypt (B.meaning block.old).image start message.now) out.old }
+    ensures same { B.meaning block.new ≡ B.meaning block.old }
     ensures keeps { CfbKeeps }
     ensures undone { CfbEncryptUndoes }
 {

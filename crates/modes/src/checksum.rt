@@ -8,8 +8,8 @@ use blocks::{Block, Refusal};
 
 // The eight octets that tell whether a message of at most 65,536 octets was changed.
 pub fn checksum<B: Block>(block: &mut B, message: &[u8]) -> Result<[u8; 8], Refusal>
-    ensures answer { result ≡ checksum_answer (meaning block.old).image message.now }
-    ensures same { meaning block.new ≡ meaning block.old }
+    ensures answer { result ≡ checksum_answer (B.meaning block.old).image message.now }
+    ensures same { B.meaning block.new ≡ B.meaning block.old }
 {
     if message.len() > LONGEST {
         return Err(Refusal::LongMessage);
@@ -19,8 +19,8 @@ pub fn checksum<B: Block>(block: &mut B, message: &[u8]) -> Result<[u8; 8], Refu
 
 // The last image of the state, after all pieces.
 fn absorb<B: Block>(block: &mut B, message: &[u8]) -> [u8; 16]
-    ensures answer { take 8 result ≡ sum (meaning block.old).image message.now }
-    ensures same { meaning block.new ≡ meaning block.old }
+    ensures answer { take 8 result ≡ sum (B.meaning block.old).image message.now }
+    ensures same { B.meaning block.new ≡ B.meaning block.old }
 {
     let n = message.len();
     let mut s = [0; 16];

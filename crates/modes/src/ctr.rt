@@ -71,8 +71,8 @@ fn pass<B: Block>(
     out: &mut [u8],
 ) -> Result<usize, Refusal>
     ensures answer { result ≡ mode_answer 0 (length message.now) (length out.old) }
-    ensures text { out.new ≡ written result (ctr (meaning block.old).image start message.now) out.old }
-    ensures same { meaning block.new ≡ meaning block.old }
+    ensures text { out.new ≡ written result (ctr (B.meaning block.old).image start message.now) out.old }
+    ensures same { B.meaning block.new ≡ B.meaning block.old }
 {
     let n = admit(0, message.len(), out.len())?;
     let at = block.forward(start);
@@ -88,8 +88,8 @@ pub fn ctr_encrypt<B: Block>(
     out: &mut [u8],
 ) -> Result<usize, Refusal>
     ensures answer { result ≡ mode_answer 0 (length message.now) (length out.old) }
-    ensures text { out.new ≡ written result (ctr (meaning block.old).image start message.now) out.old }
-    ensures same { meaning block.new ≡ meaning block.old }
+    ensures text { out.new ≡ written result (ctr (B.meaning block.old).image start message.now) out.old }
+    ensures same { B.meaning block.new ≡ B.meaning block.old }
     ensures keeps { CtrKeeps }
     ensures undone { CtrUndoes }
     ensures apart { CtrApart }
@@ -105,8 +105,8 @@ pub fn ctr_decrypt<B: Block>(
     out: &mut [u8],
 ) -> Result<usize, Refusal>
     ensures answer { result ≡ mode_answer 0 (length message.now) (length out.old) }
-    ensures text { out.new ≡ written result (ctr (meaning block.old).image start message.now) out.old }
-    ensures same { meaning block.new ≡ meaning block.old }
+    ensures text { out.new ≡ written result (ctr (B.meaning block.old).image start message.now) out.old }
+    ensures same { B.meaning block.new ≡ B.meaning block.old }
     ensures keeps { CtrKeeps }
     ensures undone { CtrUndoes }
 {

@@ -89,8 +89,8 @@ pub fn ecb_encrypt<B: Block>(
     out: &mut [u8],
 ) -> Result<usize, Refusal>
     ensures answer { result ≡ mode_answer 16 (length message.now) (length out.old) }
-    ensures text { out.new ≡ written result (ecb (meaning block.old).image message.now) out.old }
-    ensures same { meaning block.new ≡ meaning block.old }
+    ensures text { out.new ≡ written result (ecb (B.meaning block.old).image message.now) out.old }
+    ensures same { B.meaning block.new ≡ B.meaning block.old }
     ensures keeps { EcbKeeps }
     ensures undone { EcbDecryptUndoes }
     ensures apart { EcbApart }
@@ -105,8 +105,8 @@ pub fn ecb_decrypt<B: Block>(
     out: &mut [u8],
 ) -> Result<usize, Refusal>
     ensures answer { result ≡ mode_answer 16 (length message.now) (length out.old) }
-    ensures text { out.new ≡ written result (ecb (meaning block.old).preimage message.now) out.old }
-    ensures same { meaning block.new ≡ meaning block.old }
+    ensures text { out.new ≡ written result (ecb (B.meaning block.old).preimage message.now) out.old }
+    ensures same { B.meaning block.new ≡ B.meaning block.old }
     ensures keeps { EcbKeeps }
     ensures undone { EcbEncryptUndoes }
 {

@@ -21,8 +21,8 @@ pub(crate) trait Mode {
 
     // Takes the next piece of a text, a whole one: what follows is nothing, or again a text that the mode takes.
     fn turn<B: Block>(&mut self, block: &mut B, p: [u8; 16]) -> [u8; 16]
-        ensures answer { (x : List ℕ) → ((x ≡ []) ⊎ (least ≤ length x)) → makes self.old (B.Block.meaning block.old) (p ++ x) ≡ result ++ makes self.new (B.Block.meaning block.old) x }
-        ensures same { B.Block.meaning block.new ≡ B.Block.meaning block.old };
+        ensures answer { (x : List ℕ) → ((x ≡ []) ⊎ (least ≤ length x)) → makes self.old (B.meaning block.old) (p ++ x) ≡ result ++ makes self.new (B.meaning block.old) x }
+        ensures same { B.meaning block.new ≡ B.meaning block.old };
 
     // Takes the next two pieces; a mode whose pieces do not wait for each other writes its own.
     fn turn_two<B: Block>(
@@ -31,8 +31,8 @@ pub(crate) trait Mode {
         p: [u8; 16],
         q: [u8; 16],
     ) -> ([u8; 16], [u8; 16])
-        ensures answer { (x : List ℕ) → ((x ≡ []) ⊎ (least ≤ length x)) → makes self.old (B.Block.meaning block.old) (p ++ (q ++ x)) ≡ result.0 ++ (result.1 ++ makes self.new (B.Block.meaning block.old) x) }
-        ensures same { B.Block.meaning block.new ≡ B.Block.meaning block.old }
+        ensures answer { (x : List ℕ) → ((x ≡ []) ⊎ (least ≤ length x)) → makes self.old (B.meaning block.old) (p ++ (q ++ x)) ≡ result.0 ++ (result.1 ++ makes self.new (B.meaning block.old) x) }
+        ensures same { B.meaning block.new ≡ B.meaning block.old }
     {
         let a = self.turn(block, p);
         let b = self.turn(block, q);
@@ -42,8 +42,8 @@ pub(crate) trait Mode {
     // Takes the end of a text, whose last piece is short.
     fn finish<B: Block>(&mut self, block: &mut B, rest: &[u8], out: &mut [u8])
         requires { (least < length rest.now) × (length rest.now < least + 16) × (length out.old ≡ length rest.now) }
-        ensures text { out.new ≡ makes self.old (B.Block.meaning block.old) rest.now }
-        ensures same { B.Block.meaning block.new ≡ B.Block.meaning block.old };
+        ensures text { out.new ≡ makes self.old (B.meaning block.old) rest.now }
+        ensures same { B.meaning block.new ≡ B.meaning block.old };
 
     ghost sized: { (least ≡ 0) ⊎ (least ≡ 16) };
 
@@ -74,8 +74,8 @@ pub(crate) fn apply<T: Mode, B: Block>(
     out: &mut [u8],
 ) -> Result<usize, Refusal>
     ensures answer { result ≡ mode_answer T.Mode.least (length message.now) (length out.old) }
-    ensures text { out.new ≡ written result (T.Mode.makes mode.old (B.Block.meaning block.old) message.now) out.old }
-    ensures same { B.Block.meaning block.new ≡ B.Block.meaning block.old }
+    ensures text { out.new ≡ written result (T.Mode.makes mode.old (B.meaning block.old) message.now) out.old }
+    ensures same { B.meaning block.new ≡ B.meaning block.old }
 {
     let n = admit(T::fewest(), message.len(), out.len())?;
     run(mode, block, message, &mut out[0..n]);
@@ -99,8 +99,8 @@ fn whole(n: usize, least: usize) -> usize
 // Puts a text that a mode takes through it, into an output of the same length.
 pub(crate) fn run<T: Mode, B: Block>(mode: &mut T, block: &mut B, text: &[u8], out: &mut [u8])
     requires { (T.Mode.least ≤ length text.now) × (length out.old ≡ length text.now) }
-    ensures text { out.new ≡ T.Mode.makes mode.old (B.Block.meaning block.old) text.now }
-    ensures same { B.Block.meaning block.new ≡ B.Block.meaning block.old }
+    ensures text { out.new ≡ T.Mode.makes mode.old (B.meaning block.old) text.now }
+    ensures same { B.meaning block.new ≡ B.meaning block.old }
 {
     let n = text.len();
     let end = whole(n, T::fewest());
@@ -119,8 +119,8 @@ fn run_whole<T: Mode, B: Block>(
     out: &mut [u8],
 )
     requires { (end % 16 ≡ 0) × (end ≤ length text.now) × ((end ≡ length text.now) ⊎ (T.Mode.least ≤ length text.now - end)) × (length out.old ≡ length text.now) }
-    ensures text { take end out.new ++ T.Mode.makes mode.new (B.Block.meaning block.old) (drop end text.now) ≡ T.Mode.makes mode.old (B.Block.meaning block.old) text.now }
-    ensures same { B.Block.meaning block.new ≡ B.Block.meaning block.old }
+    ensures text { take end out.new ++ T.Mode.makes mode.new (B.meaning block.old) (drop end text.now) ≡ T.Mode.makes mode.old (B.meaning block.old) text.now }
+    ensures same { B.meaning block.new ≡ B.meaning block.old }
 {
     let mut at = 0;
     while end - at >= 32 {

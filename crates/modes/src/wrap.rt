@@ -42,8 +42,8 @@ fn agree(a: [u8; 16], b: [u8; 16]) -> bool
 // Step i of the wrapping, in place.
 fn wrap_step<B: Block>(block: &mut B, text: &mut [u8], i: usize)
     requires { 32 ≤ length text.old }
-    ensures text { text.new ≡ wrap_step (meaning block.old).image i text.old }
-    ensures same { meaning block.new ≡ meaning block.old }
+    ensures text { text.new ≡ wrap_step (B.meaning block.old).image i text.old }
+    ensures same { B.meaning block.new ≡ B.meaning block.old }
 {
     let at = text.len() - 16;
     let s = mix(text);
@@ -56,8 +56,8 @@ fn wrap_step<B: Block>(block: &mut B, text: &mut [u8], i: usize)
 // Step i of the unwrapping, in place.
 fn unwrap_step<B: Block>(block: &mut B, text: &mut [u8], i: usize)
     requires { 32 ≤ length text.old }
-    ensures text { text.new ≡ unwrap_step (meaning block.old).image i text.old }
-    ensures same { meaning block.new ≡ meaning block.old }
+    ensures text { text.new ≡ unwrap_step (B.meaning block.old).image i text.old }
+    ensures same { B.meaning block.new ≡ B.meaning block.old }
 {
     let at = text.len() - 16;
     let s = load(text, at);
@@ -71,8 +71,8 @@ fn unwrap_step<B: Block>(block: &mut B, text: &mut [u8], i: usize)
 // All the steps of the wrapping, in place.
 fn wrap_steps<B: Block>(block: &mut B, text: &mut [u8])
     requires { (32 ≤ length text.old) × (length text.old ≤ 272) }
-    ensures text { text.new ≡ wrap_steps (meaning block.old).image (rounds (length text.old)) text.old }
-    ensures same { meaning block.new ≡ meaning block.old }
+    ensures text { text.new ≡ wrap_steps (B.meaning block.old).image (rounds (length text.old)) text.old }
+    ensures same { B.meaning block.new ≡ B.meaning block.old }
 {
     let n = 2 * ((text.len() + 15) / 16);
     for i in 0..n {
@@ -83,8 +83,8 @@ fn wrap_steps<B: Block>(block: &mut B, text: &mut [u8])
 // All the steps of the unwrapping, in place.
 fn unwrap_steps<B: Block>(block: &mut B, text: &mut [u8])
     requires { (32 ≤ length text.old) × (length text.old ≤ 272) }
-    ensures text { text.new ≡ unwrap_steps (meaning block.old).image (rounds (length text.old)) text.old }
-    ensures same { meaning block.new ≡ meaning block.old }
+    ensures text { text.new ≡ unwrap_steps (B.meaning block.old).image (rounds (length text.old)) text.old }
+    ensures same { B.meaning block.new ≡ B.meaning block.old }
 {
     let n = 2 * ((text.len() + 15) / 16);
     for i in (0..n).rev() {
@@ -100,8 +100,8 @@ pub fn wrap<B: Block>(
     out: &mut [u8],
 ) -> Result<usize, Refusal>
     ensures answer { result ≡ wrap_answer (length key_text.now) (length out.old) }
-    ensures text { out.new ≡ written result (wrapped (meaning block.old).image header key_text.now) out.old }
-    ensures same { meaning block.new ≡ meaning block.old }
+    ensures text { out.new ≡ written result (wrapped (B.meaning block.old).image header key_text.now) out.old }
+    ensures same { B.meaning block.new ≡ B.meaning block.old }
 {
     let length = key_text.len();
     if length < 16 || length > 256 {
@@ -126,11 +126,11 @@ pub fn unwrap<B: Block>(
     scratch: &mut [u8],
     out: &mut [u8],
 ) -> Result<usize, Refusal>
-    ensures answer { result ≡ unwrap_answer (meaning block.old).image header text.now (length scratch.old) (length out.old) }
-    ensures text { out.new ≡ written result (take (length text.now - 16) (unwrapped (meaning block.old).image text.now)) out.old }
-    ensures exact { UnwrapsExactly (meaning block.old).image header text.now (length scratch.old) out.old out.new result }
+    ensures answer { result ≡ unwrap_answer (B.meaning block.old).image header text.now (length scratch.old) (length out.old) }
+    ensures text { out.new ≡ written result (take (length text.now - 16) (unwrapped (B.meaning block.old).image text.now)) out.old }
+    ensures exact { UnwrapsExactly (B.meaning block.old).image header text.now (length scratch.old) out.old out.new result }
     ensures wiped { scratch.new ≡ replicate (length scratch.old) 0 }
-    ensures same { meaning block.new ≡ meaning block.old }
+    ensures same { B.meaning block.new ≡ B.meaning block.old }
 {
     let guard = Wipe { scratch };
     unwrap_in(block, header, text, guard.scratch, out)
@@ -144,9 +144,9 @@ fn unwrap_in<B: Block>(
     scratch: &mut [u8],
     out: &mut [u8],
 ) -> Result<usize, Refusal>
-    ensures answer { result ≡ unwrap_answer (meaning block.old).image header text.now (length scratch.old) (length out.old) }
-    ensures text { out.new ≡ written result (take (length text.now - 16) (unwrapped (meaning block.old).image text.now)) out.old }
-    ensures same { meaning block.new ≡ meaning block.old }
+    ensures answer { result ≡ unwrap_answer (B.meaning block.old).image header text.now (length scratch.old) (length out.old) }
+    ensures text { out.new ≡ written result (take (length text.now - 16) (unwrapped (B.meaning block.old).image text.now)) out.old }
+    ensures same { B.meaning block.new ≡ B.meaning block.old }
 {
     let n = unwrap_within(block, header, text, out.len(), scratch)?;
     out[0..n].copy_from_slice(&scratch[0..n]);
@@ -162,9 +162,9 @@ pub fn unwrap_within<B: Block>(
     room: usize,
     scratch: &mut [u8],
 ) -> Result<usize, Refusal>
-    ensures answer { result ≡ unwrap_answer (meaning block.old).image header text.now (length scratch.old) room }
-    ensures key { Within result (take (length text.now - 16) (unwrapped (meaning block.old).image text.now)) scratch.new room }
-    ensures same { meaning block.new ≡ meaning block.old }
+    ensures answer { result ≡ unwrap_answer (B.meaning block.old).image header text.now (length scratch.old) room }
+    ensures key { Within result (take (length text.now - 16) (unwrapped (B.meaning block.old).image text.now)) scratch.new room }
+    ensures same { B.meaning block.new ≡ B.meaning block.old }
 {
     let size = text.len();
     if size < 32 || size > SCRATCH {

@@ -8,5 +8,5 @@ pub returns-then-last-eq16 : goal.returns-then-last-eq16
 returns-then-last-eq16 c =
     let x = c.args.last.now in
     let all : c.load.result ≡ x = c.load.ensures ∙ take_all 16 x (omega arith) in
-    c.xor-then-last-eq16.ensures ∙ ap₂ xor_each (c.xor.ensures ∙ ap (xor_each c.args.s) all) c.whole-mark.ensures
+    c.xor-then-last-eq16.ensures ∙ ap₂ xor_each (c.xor.ensures ∙ ap (xor_each c.args.s) all) c.whole_mark.ensures
     ∙ sym (cond-true _ _ _ (eq-eqb (length x) 16 c.if-last-eq16.true))

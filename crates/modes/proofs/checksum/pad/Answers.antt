@@ -6,4 +6,4 @@ use Rattle.modes.proofs.checksum.pad.Goals as goal
 pub returns : goal.returns
 returns c =
     let q = c.args.q.now in
-    ap₂ (λ a k. set (a ++ drop k (replicate 16 0)) (length q) 128) c.copy-from-slice.ensures.after (sub-zero (length q)) ∙ pad-is q c.requires
+    ap₂ (λ a k. set (a ++ drop k (replicate 16 0)) (length q) 128) c.copy_from_slice.ensures.after (sub-zero (length q)) ∙ pad-is q c.requires

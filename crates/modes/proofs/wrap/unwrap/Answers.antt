@@ -4,11 +4,11 @@ use Rattle.modes.proofs.wrap.unwrap.Goals as goal
 
 pub returns : goal.returns
 returns g c = record {
-  answer = c.unwrap-in.ensures.answer;
-  text = c.unwrap-in.ensures.text;
+  answer = c.unwrap_in.ensures.answer;
+  text = c.unwrap_in.ensures.text;
   exact =
       exactly _ (g.met.B.Block.reversible c.args.block.now).forth _ _ _ _ _ _ (search rules) (search rules)
-      c.unwrap-in.ensures.answer c.unwrap-in.ensures.text;
+      c.unwrap_in.ensures.answer c.unwrap_in.ensures.text;
   wiped = search rules;
-  same = c.unwrap-in.ensures.same;
+  same = c.unwrap_in.ensures.same;
 }

@@ -10,15 +10,15 @@ returns-then-not-agree g c =
     let f = (g.B.Block.meaning c.args.block.now).image in
     let y = c.args.text.now in
     let m = length y in
-    let u = c.unwrap-steps.new.text in
-    let u-is : u ≡ unwrapped f y = c.unwrap-steps.ensures.text ∙ ap (unwrapped f) c.copy-from-slice.ensures.after in
+    let u = c.unwrap_steps.new.text in
+    let u-is : u ≡ unwrapped f y = c.unwrap_steps.ensures.text ∙ ap (unwrapped f) c.copy_from_slice.ensures.after in
     let test = header-same (unwrapped f y) u c.args.header c.load.result m c.agree.result u-is (search rules) c.load.ensures c.agree.ensures in
     record {
       answer =
           tests-header m (length c.args.scratch.now) c.args.room (same (drop (m - 16) (unwrapped f y)) c.args.header)
           (omega arith) (omega arith) (omega arith) (omega arith) (sym test ∙ c.if-not-agree.true);
       key = tt;
-      same = c.unwrap-steps.ensures.same;
+      same = c.unwrap_steps.ensures.same;
     }
 
 pub returns : goal.returns
@@ -26,8 +26,8 @@ returns g c =
     let f = (g.B.Block.meaning c.args.block.now).image in
     let y = c.args.text.now in
     let m = length y in
-    let u = c.unwrap-steps.new.text in
-    let u-is : u ≡ unwrapped f y = c.unwrap-steps.ensures.text ∙ ap (unwrapped f) c.copy-from-slice.ensures.after in
+    let u = c.unwrap_steps.new.text in
+    let u-is : u ≡ unwrapped f y = c.unwrap_steps.ensures.text ∙ ap (unwrapped f) c.copy_from_slice.ensures.after in
     let test = header-same (unwrapped f y) u c.args.header c.load.result m c.agree.result u-is (search rules) c.load.ensures c.agree.ensures in
     let lu : length u ≡ m = search rules in
     record {
@@ -35,5 +35,5 @@ returns g c =
           tests-ok m (length c.args.scratch.now) c.args.room (same (drop (m - 16) (unwrapped f y)) c.args.header)
           (omega arith) (omega arith) (omega arith) (omega arith) (sym test ∙ c.if-not-agree.false);
       key = (take-append-le (m - 16) u _ (omega arith) ∙ ap (take (m - 16)) u-is, omega arith, simp length-append (omega arith));
-      same = c.unwrap-steps.ensures.same;
+      same = c.unwrap_steps.ensures.same;
     }

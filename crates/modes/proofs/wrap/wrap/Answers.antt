@@ -8,13 +8,13 @@ use Rattle.modes.proofs.wrap.wrap.Goals as goal
 pub returns : goal.returns
 returns g c =
     let f = (g.B.Block.meaning c.args.block.now).image in
-    let x = c.args.key-text.now in
+    let x = c.args.key_text.now in
     let r-is : c.store.new.out ≡ x ++ c.args.header =
-    laid x c.args.header c.copy-from-slice.new.self _ _ c.store.ensures c.copy-from-slice.ensures.after (search rules) in
+    laid x c.args.header c.copy_from_slice.new.self _ _ c.store.ensures c.copy_from_slice.ensures.after (search rules) in
     record {
       answer = grind (arith, nat_tests);
       text =
-          ap₂ ◌++◌ (c.wrap-steps.ensures.text ∙ ap (λ r. wrap_steps f (rounds (length r)) r) r-is)
+          ap₂ ◌++◌ (c.wrap_steps.ensures.text ∙ ap (λ r. wrap_steps f (rounds (length r)) r) r-is)
           (ap (λ k. drop k c.args.out.now) (sub-zero (length x + 16)));
-      same = c.wrap-steps.ensures.same;
+      same = c.wrap_steps.ensures.same;
     }

@@ -12,6 +12,6 @@ returns g c =
     let s = c.mix-s.result in
     let last-is : c.xor-last.result ≡ xor_each (take 16 (drop (length r - 16) r)) (xor_each (f s) (step_number c.args.i)) = cc in
     record {
-      text = wrapped-in-place f c.args.i r _ _ _ s c.xor-last.result c.requires (search rules) c.mix-s.ensures (search rules) last-is c.store.ensures c.rotate-left.ensures.after c.store-2.ensures;
+      text = wrapped-in-place f c.args.i r _ _ _ s c.xor-last.result c.requires (search rules) c.mix-s.ensures (search rules) last-is c.store.ensures c.rotate_left.ensures.after c.store-2.ensures;
       same = c.forward.ensures.same;
     }

@@ -21,6 +21,6 @@ returns g c =
     (c.backward-2.ensures.answer ∙ ap (λ (m : Step). m.preimage c.filled-2.result) c.backward.ensures.same
     ∙ ap back (c.filled-2.ensures ∙ base-filled x w ∙ ap (λ z. q ++ drop (length q) z) w-is)) in
     record {
-      text = steal-written (cbc_back back) before x _ w _ (length c.args.out.now) c.requires.0 c.requires.1 c.requires.2 d-is (ap (take (length q)) w-is) c.store-two.ensures;
+      text = steal-written (cbc_back back) before x _ w _ (length c.args.out.now) c.requires.0 c.requires.1 c.requires.2 d-is (ap (take (length q)) w-is) c.store_two.ensures;
       same = c.backward-2.ensures.same ∙ c.backward.ensures.same;
     }

@@ -24,6 +24,6 @@ returns g c =
     ∙ xor-filled q e (16 - length q) (omega (arith, length-drop 16 x))
     ∙ ap (λ z. xor_each q (take (length q) z) ++ drop (length q) z) e-is) in
     record {
-      text = steal-written (cbc_forth image) before x _ e _ (length c.args.out.now) c.requires.0 c.requires.1 c.requires.2 d-is (ap (take (length q)) e-is) c.store-two.ensures;
+      text = steal-written (cbc_forth image) before x _ e _ (length c.args.out.now) c.requires.0 c.requires.1 c.requires.2 d-is (ap (take (length q)) e-is) c.store_two.ensures;
       same = c.forward-d.ensures.same ∙ c.forward-c.ensures.same;
     }
