@@ -11,16 +11,16 @@ returns-then-n-eq0 g c = record {
   added = (refl, full c.args.cells.now c.args.chain.now c.requires c.if-n-eq0.true, refl);
 }
 
-pub next-of-chain-requires : goal.next-of-chain-requires
-next-of-chain-requires g c =
+pub next_of-chain-requires : goal.next_of-chain-requires
+next_of-chain-requires g c =
     let p : 0 < c.args.chain.now.free = omega arith in (p, free_in c.args.cells.now c.args.chain.now c.requires p)
 
 pub fill-requires : goal.fill-requires
 fill-requires g c =
     let p : 0 < c.args.chain.now.free = omega arith in (p, free_in c.args.cells.now c.args.chain.now c.requires p)
 
-pub link-at-requires : goal.link-at-requires
-link-at-requires g c =
+pub link_at-requires : goal.link_at-requires
+link_at-requires g c =
     let p : 0 < c.args.chain.now.last = omega arith in
     (p, omega (arith, c.fill.auto.cells, last-in c.args.cells.now c.args.chain.now c.requires p))
 
@@ -33,18 +33,18 @@ returns g c =
     let gr : Grown cells chain after.cells (ended after.chain chain.free) c.args.value =
     elim after.branch [
       | then-chain-eq0 w ↦
-          add-first-step cells after.cells chain after.chain c.args.value c.next-of-chain.result c.requires p
+          add-first-step cells after.cells chain after.chain c.args.value c.next_of-chain.result c.requires p
           (ap values w.cells-is ∙ c.fill.ensures.values)
-          c.next-of-chain.ensures
+          c.next_of-chain.ensures
           w.if-chain-eq0.true
           (ap nexts w.cells-is ∙ c.fill.ensures.nexts)
           w.chain-is
       | else-chain-eq0 w ↦
-          add-more-step cells after.cells chain after.chain c.args.value c.next-of-chain.result c.requires p
-          (ap values w.cells-is ∙ w.link-at.ensures.values ∙ c.fill.ensures.values)
-          c.next-of-chain.ensures
+          add-more-step cells after.cells chain after.chain c.args.value c.next_of-chain.result c.requires p
+          (ap values w.cells-is ∙ w.link_at.ensures.values ∙ c.fill.ensures.values)
+          c.next_of-chain.ensures
           (omega (arith, w.if-chain-eq0.false))
-          (ap nexts w.cells-is ∙ w.link-at.ensures.nexts ∙ ap (λ nx. put nx chain.last chain.free) c.fill.ensures.nexts)
+          (ap nexts w.cells-is ∙ w.link_at.ensures.nexts ∙ ap (λ nx. put nx chain.last chain.free) c.fill.ensures.nexts)
           w.chain-is
     ] in
     record { sound = gr.0; added = (room cells chain c.requires p, gr.1) }

@@ -5,16 +5,16 @@ use Rattle.books.proofs.links.form.Goals as goal
 pub loop-n-init : goal.loop-n-init
 loop-n-init g c = (omega arith, formed-none c.args.cells.now _ refl)
 
-pub link-at-requires : goal.link-at-requires
-link-at-requires g c = (c.loop-n-test.true, c.loop-n.invariant.0)
+pub link_at-requires : goal.link_at-requires
+link_at-requires g c = (c.loop-n-test.true, c.loop-n.invariant.0)
 
 pub loop-n-smaller : goal.loop-n-smaller
 loop-n-smaller g c = omega arith
 
 pub loop-n-preserved : goal.loop-n-preserved
 loop-n-preserved g c = (
-  omega (arith, c.link-at.auto.cells, c.loop-n.invariant.0),
-  formed-more c.loop-n.cells c.link-at.new.cells c.loop-n.n c.loop-n.free c.loop-n-test.true c.loop-n.invariant.0 c.link-at.ensures.nexts c.loop-n.invariant.1,
+  omega (arith, c.link_at.auto.cells, c.loop-n.invariant.0),
+  formed-more c.loop-n.cells c.link_at.new.cells c.loop-n.n c.loop-n.free c.loop-n-test.true c.loop-n.invariant.0 c.link_at.ensures.nexts c.loop-n.invariant.1,
 )
 
 pub returns : goal.returns

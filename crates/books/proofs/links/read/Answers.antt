@@ -18,24 +18,24 @@ returns-then-k-eq0 g c =
 pub loop-step-init : goal.loop-step-init
 loop-step-init g c = come-first c.args.cells.now c.args.chain.now c.requires
 
-pub next-of-n-requires : goal.next-of-n-requires
-next-of-n-requires g c =
-    let a = come-at c.args.cells.now c.args.chain.now c.loop-step.-step c.loop-step.n c.requires (omega arith) (omega arith) c.loop-step.invariant in
+pub next_of-n-requires : goal.next_of-n-requires
+next_of-n-requires g c =
+    let a = come-at c.args.cells.now c.args.chain.now c.loop-step._step c.loop-step.n c.requires (omega arith) (omega arith) c.loop-step.invariant in
     (a.0, a.1)
 
 pub loop-step-preserved : goal.loop-step-preserved
 loop-step-preserved g c =
-    let a = come-at c.args.cells.now c.args.chain.now c.loop-step.-step c.loop-step.n c.requires (omega arith) (omega arith) c.loop-step.invariant in
-    let P : ℕ → Type 0 = Come c.args.cells.now c.args.chain.now (c.loop-step.-step + 1) in
-    subst P (sym c.next-of-n.ensures) a.3
+    let a = come-at c.args.cells.now c.args.chain.now c.loop-step._step c.loop-step.n c.requires (omega arith) (omega arith) c.loop-step.invariant in
+    let P : ℕ → Type 0 = Come c.args.cells.now c.args.chain.now (c.loop-step._step + 1) in
+    subst P (sym c.next_of-n.ensures) a.3
 
-pub value-of-requires : goal.value-of-requires
-value-of-requires g c =
-    let a = come-at c.args.cells.now c.args.chain.now c.loop-step.-step c.loop-step.n c.requires (omega arith) (omega arith) c.loop-step.invariant in
+pub value_of-requires : goal.value_of-requires
+value_of-requires g c =
+    let a = come-at c.args.cells.now c.args.chain.now c.loop-step._step c.loop-step.n c.requires (omega arith) (omega arith) c.loop-step.invariant in
     (a.0, a.1)
 
 pub returns : goal.returns
 returns g c =
-    let e : c.loop-step.-step ≡ c.args.k = omega arith in
+    let e : c.loop-step._step ≡ c.args.k = omega arith in
     let P : ℕ → Type 0 = λ s. Come c.args.cells.now c.args.chain.now s c.loop-step.n in
-    kth-come c.args.cells.now c.args.chain.now c.args.k c.loop-step.n c.value-of.result c.requires (omega arith) (omega arith) (subst P e c.loop-step.invariant) c.value-of.ensures
+    kth-come c.args.cells.now c.args.chain.now c.args.k c.loop-step.n c.value_of.result c.requires (omega arith) (omega arith) (subst P e c.loop-step.invariant) c.value_of.ensures
