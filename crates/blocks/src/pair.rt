@@ -21,7 +21,7 @@ impl<A: Block, B: Block> PairBlock<A, B> {
 }
 
 impl<A: Block, B: Block> Block for PairBlock<A, B> {
-    ghost meaning = { λ s. and_then (A.Block.meaning s.first) (B.Block.meaning s.second) };
+    ghost meaning = { λ s. and_then (A.meaning s.first) (B.meaning s.second) };
 
     ghost reversible = { λ s. reversible-pair _ _ (A.Block.reversible s.first) (B.Block.reversible s.second) };
 

@@ -25,7 +25,7 @@ fn show_steps<B: Block>(rt: &HostRuntime, steps: &mut B, block: [u8; 16]) -> any
 
 // A block's image and what the image leads back to: the block, whatever the steps.
 fn there_and_back<B: Block>(steps: &mut B, p: [u8; 16]) -> ([u8; 16], [u8; 16])
-    ensures image { result.0 ≡ (B.Block.meaning steps.old).image p }
+    ensures image { result.0 ≡ (B.meaning steps.old).image p }
     ensures back { result.1 ≡ p }
 {
     let image = steps.forward(p);

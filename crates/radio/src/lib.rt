@@ -53,7 +53,7 @@ fn put(digest: &[u8], out: &mut [u8]) -> Result<usize, Refusal>
 // Writes the checksum of a message to the front of an output.
 fn put_checksum<B: Block>(block: &mut B, message: &[u8], out: &mut [u8]) -> Result<usize, Refusal>
     ensures answer { result ≡ digest_answer 8 (length message.now) (length out.old) }
-    ensures text { out.new ≡ written result (checksum (meaning block.old).image message.now) out.old }
+    ensures text { out.new ≡ written result (checksum (B.meaning block.old).image message.now) out.old }
 {
     let sum = checksum_of(block, message)?;
     put(&sum, out)

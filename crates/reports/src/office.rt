@@ -31,13 +31,13 @@ pub fn open<S: Block, C: Block>(
     book: &mut Book<Visit>,
     text: &[u8],
 ) -> Result<Opened, Fault>
-    ensures answer { result ≡ opened_of (open_answer (sealer (S.Block.meaning seal.old) (C.Block.meaning check.old)) (free_cells_in book.old) text.now) }
-    ensures held { elements book.new ≡ held_after (elements book.old) (open_answer (sealer (S.Block.meaning seal.old) (C.Block.meaning check.old)) (free_cells_in book.old) text.now) }
-    ensures exact { OpensExactly (sealer (S.Block.meaning seal.old) (C.Block.meaning check.old)) (free_cells_in book.old) text.now (elements book.old) (elements book.new) result }
+    ensures answer { result ≡ opened_of (open_answer (sealer (S.meaning seal.old) (C.meaning check.old)) (free_cells_in book.old) text.now) }
+    ensures held { elements book.new ≡ held_after (elements book.old) (open_answer (sealer (S.meaning seal.old) (C.meaning check.old)) (free_cells_in book.old) text.now) }
+    ensures exact { OpensExactly (sealer (S.meaning seal.old) (C.meaning check.old)) (free_cells_in book.old) text.now (elements book.old) (elements book.new) result }
     ensures capacity { capacity book.new ≡ capacity book.old }
     ensures untouched { is_ok result ≡ false → book.new ≡ book.old }
-    ensures seal_same { S.Block.meaning seal.new ≡ S.Block.meaning seal.old }
-    ensures check_same { C.Block.meaning check.new ≡ C.Block.meaning check.old }
+    ensures seal_same { S.meaning seal.new ≡ S.meaning seal.old }
+    ensures check_same { C.meaning check.new ≡ C.meaning check.old }
 {
     if !is_sized(text.len()) {
         return Err(Fault {
@@ -119,10 +119,10 @@ fn decode<S: Block, C: Block>(
     requires long { length text.now ≡ text_size v }
     requires few { v ≤ most_visits }
     requires room { length body.old ≡ body_size v }
-    ensures answer { result ≡ decode_answer (sealer (S.Block.meaning seal.old) (C.Block.meaning check.old)) v text.now }
-    ensures body { is_ok result ≡ true → body.new ≡ body_in (sealer (S.Block.meaning seal.old) (C.Block.meaning check.old)) text.now }
-    ensures seal_same { S.Block.meaning seal.new ≡ S.Block.meaning seal.old }
-    ensures check_same { C.Block.meaning check.new ≡ C.Block.meaning check.old }
+    ensures answer { result ≡ decode_answer (sealer (S.meaning seal.old) (C.meaning check.old)) v text.now }
+    ensures body { is_ok result ≡ true → body.new ≡ body_in (sealer (S.meaning seal.old) (C.meaning check.old)) text.now }
+    ensures seal_same { S.meaning seal.new ≡ S.meaning seal.old }
+    ensures check_same { C.meaning check.new ≡ C.meaning check.old }
 {
     let n = text.len() - SUM;
     let sum = sum_of(check, &text[0..n]);

@@ -33,10 +33,10 @@ pub fn seal_list<S: Block, C: Block>(
     out: &mut [u8],
 ) -> Result<usize, Refusal>
     ensures answer { result ≡ seal_answer (report_of header visits.now) (length out.old) }
-    ensures text { out.new ≡ written result (sealed (sealer (S.Block.meaning seal.old) (C.Block.meaning check.old)) (report_of header visits.now)) out.old }
+    ensures text { out.new ≡ written result (sealed (sealer (S.meaning seal.old) (C.meaning check.old)) (report_of header visits.now)) out.old }
     ensures exact { SealsExactly (report_of header visits.now) (length out.old) result }
-    ensures seal_same { S.Block.meaning seal.new ≡ S.Block.meaning seal.old }
-    ensures check_same { C.Block.meaning check.new ≡ C.Block.meaning check.old }
+    ensures seal_same { S.meaning seal.new ≡ S.meaning seal.old }
+    ensures check_same { C.meaning check.new ≡ C.meaning check.old }
 {
     if !head_lawful(header, visits) {
         return Err(Refusal::ReportHeader);
@@ -87,9 +87,9 @@ fn write_sealed<S: Block, C: Block>(
 )
     requires few { length visits.now ≤ most_visits }
     requires room { length out.old ≡ text_size (length visits.now) }
-    ensures text { out.new ≡ sealed (sealer (S.Block.meaning seal.old) (C.Block.meaning check.old)) (report_of header.now visits.now) }
-    ensures seal_same { S.Block.meaning seal.new ≡ S.Block.meaning seal.old }
-    ensures check_same { C.Block.meaning check.new ≡ C.Block.meaning check.old }
+    ensures text { out.new ≡ sealed (sealer (S.meaning seal.old) (C.meaning check.old)) (report_of header.now visits.now) }
+    ensures seal_same { S.meaning seal.new ≡ S.meaning seal.old }
+    ensures check_same { C.meaning check.new ≡ C.meaning check.old }
 {
     let n = out.len() - SUM;
     let mut room = [0; MOST_BODY];

@@ -21,8 +21,8 @@ fn seed(header: &Header) -> [u8; 16]
 
 // The start of a report.
 pub(crate) fn start_of<S: Block>(seal: &mut S, header: &Header) -> [u8; 16]
-    ensures answer { result ≡ start_of (meaning seal.old) header.now.wand header.now.number }
-    ensures same { meaning seal.new ≡ meaning seal.old }
+    ensures answer { result ≡ start_of (S.meaning seal.old) header.now.wand header.now.number }
+    ensures same { S.meaning seal.new ≡ S.meaning seal.old }
 {
     seal.forward(seed(header))
 }
@@ -31,8 +31,8 @@ pub(crate) fn start_of<S: Block>(seal: &mut S, header: &Header) -> [u8; 16]
 pub(crate) fn encipher<S: Block>(seal: &mut S, start: [u8; 16], body: &[u8], out: &mut [u8])
     requires long { (start_size ≤ length body.now) × (length body.now ≤ longest) }
     requires room { length out.old ≡ length body.now }
-    ensures text { out.new ≡ enciphered (meaning seal.old) start body.now }
-    ensures same { meaning seal.new ≡ meaning seal.old }
+    ensures text { out.new ≡ enciphered (S.meaning seal.old) start body.now }
+    ensures same { S.meaning seal.new ≡ S.meaning seal.old }
 {
     let _ = cbc_encrypt(seal, start, body, out);
 }
@@ -41,8 +41,8 @@ pub(crate) fn encipher<S: Block>(seal: &mut S, start: [u8; 16], body: &[u8], out
 pub(crate) fn decipher<S: Block>(seal: &mut S, start: [u8; 16], text: &[u8], out: &mut [u8])
     requires long { (start_size ≤ length text.now) × (length text.now ≤ longest) }
     requires room { length out.old ≡ length text.now }
-    ensures text { out.new ≡ deciphered (meaning seal.old) start text.now }
-    ensures same { meaning seal.new ≡ meaning seal.old }
+    ensures text { out.new ≡ deciphered (S.meaning seal.old) start text.now }
+    ensures same { S.meaning seal.new ≡ S.meaning seal.old }
 {
     let _ = cbc_decrypt(seal, start, text, out);
 }
@@ -50,8 +50,8 @@ pub(crate) fn decipher<S: Block>(seal: &mut S, start: [u8; 16], text: &[u8], out
 // The checksum of a text.
 pub(crate) fn sum_of<C: Block>(check: &mut C, text: &[u8]) -> [u8; 8]
     requires { length text.now ≤ longest }
-    ensures answer { result ≡ sum_of (meaning check.old).image text.now }
-    ensures same { meaning check.new ≡ meaning check.old }
+    ensures answer { result ≡ sum_of (C.meaning check.old).image text.now }
+    ensures same { C.meaning check.new ≡ C.meaning check.old }
 {
     checksum(check, text).unwrap()
 }

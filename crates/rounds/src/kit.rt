@@ -28,11 +28,11 @@ pub fn kit<B: Block>(
     scratch: &mut [u8],
     out: &mut [u8],
 ) -> Result<usize, Refusal>
-    ensures answer { result ≡ kit_answer (meaning block.old).image header text.now (length scratch.old) (length out.old) }
-    ensures text { out.new ≡ written result (kit_keys (take (length text.now - 16) (unwrapped (meaning block.old).image text.now)) site) out.old }
-    ensures exact { KitExact (meaning block.old).image header text.now site (length scratch.old) out.old out.new result }
+    ensures answer { result ≡ kit_answer (B.meaning block.old).image header text.now (length scratch.old) (length out.old) }
+    ensures text { out.new ≡ written result (kit_keys (take (length text.now - 16) (unwrapped (B.meaning block.old).image text.now)) site) out.old }
+    ensures exact { KitExact (B.meaning block.old).image header text.now site (length scratch.old) out.old out.new result }
     ensures wiped { scratch.new ≡ replicate (length scratch.old) 0 }
-    ensures same { meaning block.new ≡ meaning block.old }
+    ensures same { B.meaning block.new ≡ B.meaning block.old }
 {
     let guard = Wipe { scratch };
     kit_in(block, header, text, site, guard.scratch, out)
@@ -47,9 +47,9 @@ fn kit_in<B: Block>(
     scratch: &mut [u8],
     out: &mut [u8],
 ) -> Result<usize, Refusal>
-    ensures answer { result ≡ kit_answer (meaning block.old).image header text.now (length scratch.old) (length out.old) }
-    ensures text { out.new ≡ written result (kit_keys (take (length text.now - 16) (unwrapped (meaning block.old).image text.now)) site) out.old }
-    ensures same { meaning block.new ≡ meaning block.old }
+    ensures answer { result ≡ kit_answer (B.meaning block.old).image header text.now (length scratch.old) (length out.old) }
+    ensures text { out.new ≡ written result (kit_keys (take (length text.now - 16) (unwrapped (B.meaning block.old).image text.now)) site) out.old }
+    ensures same { B.meaning block.new ≡ B.meaning block.old }
 {
     let n = unwrap_within(block, header, text, room(out.len()), scratch)?;
     if n != 16 && n != 24 && n != 32 {

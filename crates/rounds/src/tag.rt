@@ -31,8 +31,8 @@ pub fn issue<B: Block>(
     out: &mut [u8],
 ) -> Result<usize, Refusal>
     ensures answer { result ≡ issue_answer site checkpoint (length out.old) }
-    ensures text { out.new ≡ written result (issued (meaning block.old).image site checkpoint serial) out.old }
-    ensures same { meaning block.new ≡ meaning block.old }
+    ensures text { out.new ≡ written result (issued (B.meaning block.old).image site checkpoint serial) out.old }
+    ensures same { B.meaning block.new ≡ B.meaning block.old }
 {
     if site == 0 || checkpoint == 0 {
         return Err(Refusal::ZeroNumber);
@@ -78,9 +78,9 @@ struct Parts {
 
 // Reads a tag text against a site and a block.
 pub fn check<B: Block>(block: &mut B, site: u16, text: &[u8]) -> Result<Tag, Refusal>
-    ensures answer { result ≡ tag_answer (meaning block.old).image site text.now }
-    ensures exact { TagExact (meaning block.old).image site text.now result }
-    ensures same { meaning block.new ≡ meaning block.old }
+    ensures answer { result ≡ tag_answer (B.meaning block.old).image site text.now }
+    ensures exact { TagExact (B.meaning block.old).image site text.now result }
+    ensures same { B.meaning block.new ≡ B.meaning block.old }
 {
     let Some(parts) = take_apart(text) else {
         return Err(Refusal::TagLength);
