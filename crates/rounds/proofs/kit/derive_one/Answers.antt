@@ -12,10 +12,10 @@ returns c =
     let key = c.args.key.now in
     let out = c.args.out.now in
     let n = length key in
-    let t = transformed key (replicate 12 0) c.key-header.result n in
+    let t = transformed key (replicate 12 0) c.key_header.result n in
     let fits : transform_answer n n (length out) ≡ Ok n = grind (arith, nat_tests) in
     c.transform.ensures.text
     ∙ ap (λ r. written r t out) (c.transform.ensures.answer ∙ fits)
     ∙ ap (λ z. t ++ z) (drop_all n out (omega arith))
     ∙ append-nil t
-    ∙ ap (λ h. transformed key (replicate 12 0) h n) c.key-header.ensures
+    ∙ ap (λ h. transformed key (replicate 12 0) h n) c.key_header.ensures

@@ -4,11 +4,11 @@ use Rattle.rounds.proofs.kit.kit.Goals as goal
 
 pub returns : goal.returns
 returns g c = record {
-  answer = c.kit-in.ensures.answer;
-  text = c.kit-in.ensures.text;
+  answer = c.kit_in.ensures.answer;
+  text = c.kit_in.ensures.text;
   exact =
-      kit-exact _ (g.met.B.Block.reversible c.args.block.now).forth _ _ _ _ _ _ _ (search rules) (λ k. (c.type-inv.text k).fits)
-      c.kit-in.ensures.answer c.kit-in.ensures.text;
+      kit-exact _ (g.met.B.Block.reversible c.args.block.now).forth _ _ _ _ _ _ _ (search rules) (λ k. (c.type_inv.text k).fits)
+      c.kit_in.ensures.answer c.kit_in.ensures.text;
   wiped = search rules;
-  same = c.kit-in.ensures.same;
+  same = c.kit_in.ensures.same;
 }

@@ -9,12 +9,12 @@ use Rattle.rounds.specs.Checked.{TagExact, tag_answer, tag_parts, parts_answer}
 use Rattle.rounds.proofs.Tagged.{tag-exact, no-parts, some-parts}
 use Rattle.rounds.proofs.tag.check.Goals as goal
 
-pub returns-in-default : goal.returns-in-default
-returns-in-default g c =
+pub returns-in_default : goal.returns-in_default
+returns-in_default g c =
     let m = g.B.Block.meaning c.args.block.now in
     let t = c.args.text.now in
     let o : Octets t = λ k. search rules in
-    let e = sym (cond-false (eqb (length t) 24) _ _ (no-parts (eqb (length t) 24) (tag_parts t) c.in-default.ensures)) in
+    let e = sym (cond-false (eqb (length t) 24) _ _ (no-parts (eqb (length t) 24) (tag_parts t) c.in_default.ensures)) in
     record {
       answer = e;
       exact =
@@ -31,8 +31,8 @@ returns g c =
     let o : Octets t = λ k. search rules in
     let p = some-parts (eqb (length t) 24) (tag_parts t) c.in-Some.parts c.in-Some.ensures in
     let l : length t ≡ 24 = eqb-true (length t) 24 p.0 in
-    let s : c.in-ok-sum.sum ≡ checksum f (take 16 t)
-    = sum-given f (take 16 t) _ (omega (arith, length-take-le 16 t (omega arith))) c.in-ok-sum.ensures.answer in
+    let s : c.in_ok-sum.sum ≡ checksum f (take 16 t)
+    = sum-given f (take 16 t) _ (omega (arith, length-take-le 16 t (omega arith))) c.in_ok-sum.ensures.answer in
     let b : c.same.result ≡ bytes_eq (drop 16 t) (checksum f (take 16 t))
     = c.same.ensures ∙ ap₂ bytes_eq (take_all 8 (drop 16 t) (omega (arith, length-drop 16 t))) s in
     let e : c.judge.result ≡ tag_answer f c.args.site t

@@ -12,9 +12,9 @@ returns g c =
     let x = c.head-front.result in
     let h = c.head-front.ensures in
     let l : length x ≡ 16 = ap length h in
-    let s : c.in-ok-sum.sum ≡ checksum f x = sum-given f x _ (omega arith) c.in-ok-sum.ensures.answer in
+    let s : c.in_ok-sum.sum ≡ checksum f x = sum-given f x _ (omega arith) c.in_ok-sum.ensures.answer in
     record {
       answer = grind (arith, nat_tests);
-      text = ap (λ t. t ++ drop 24 c.args.out.now) (c.copy-from-slice.ensures.after ∙ c.join.ensures ∙ ap₂ ◌++◌ h (s ∙ ap (checksum f) h));
+      text = ap (λ t. t ++ drop 24 c.args.out.now) (c.copy_from_slice.ensures.after ∙ c.join.ensures ∙ ap₂ ◌++◌ h (s ∙ ap (checksum f) h));
       same = c.checksum.ensures.same;
     }
