@@ -10,11 +10,11 @@ loop-i-init c = (refl, omega (arith, c.requires.room), refl)
 pub loop-i-preserved : goal.loop-i-preserved
 loop-i-preserved c =
     let held = elements c.loop-i.book in
-    let w = c.visit-at.result in
-    let e : elements c.add-last.new.self ≡ held ++ w ∷ [] = added _ _ held w _ c.add-last.result c.add-last.ensures.added (omega (arith, c.loop-i.invariant.1)) in (
-      visits-more c.args.body.now c.args.v c.loop-i.i w held _ _ c.loop-i-test.true c.visit-at.ensures e c.loop-i.invariant.0,
-      omega (arith, ap length e, length_push held w, c.add-last.ensures.capacity, c.loop-i.invariant.1),
-      c.add-last.ensures.capacity ∙ c.loop-i.invariant.2,
+    let w = c.visit_at.result in
+    let e : elements c.add_last.new.self ≡ held ++ w ∷ [] = added _ _ held w _ c.add_last.result c.add_last.ensures.added (omega (arith, c.loop-i.invariant.1)) in (
+      visits-more c.args.body.now c.args.v c.loop-i.i w held _ _ c.loop-i-test.true c.visit_at.ensures e c.loop-i.invariant.0,
+      omega (arith, ap length e, length_push held w, c.add_last.ensures.capacity, c.loop-i.invariant.1),
+      c.add_last.ensures.capacity ∙ c.loop-i.invariant.2,
     )
 
 pub returns : goal.returns

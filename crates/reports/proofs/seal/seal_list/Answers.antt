@@ -5,11 +5,11 @@ use Rattle.reports.specs.Sealing.{head_ok, visits_ok, text_size}
 use Rattle.reports.proofs.Sealable.{few, head-refused, visits-refused, short-refused, accepted, seals-exactly}
 use Rattle.reports.proofs.seal.seal_list.Goals as goal
 
-pub returns-then-not-head-lawful : goal.returns-then-not-head-lawful
-returns-then-not-head-lawful g c =
+pub returns-then-not-head_lawful : goal.returns-then-not-head_lawful
+returns-then-not-head_lawful g c =
     let r = report_of c.args.header c.args.visits.now in
     let n = length c.args.out.now in
-    let p = c.if-not-head-lawful.ensures in
+    let p = c.if-not-head_lawful.ensures in
     let wand : c.args.header.wand < 2 ^ 32 = search rules in
     let site : c.args.header.site < 2 ^ 16 = search rules in
     let answer = head-refused r n (sym p) in
@@ -21,14 +21,14 @@ returns-then-not-head-lawful g c =
       check_same = refl;
     }
 
-pub returns-then-not-visits-lawful : goal.returns-then-not-visits-lawful
-returns-then-not-visits-lawful g c =
+pub returns-then-not-visits_lawful : goal.returns-then-not-visits_lawful
+returns-then-not-visits_lawful g c =
     let r = report_of c.args.header c.args.visits.now in
     let n = length c.args.out.now in
-    let p = c.if-not-visits-lawful.ensures.answer in
+    let p = c.if-not-visits_lawful.ensures.answer in
     let wand : c.args.header.wand < 2 ^ 32 = search rules in
     let site : c.args.header.site < 2 ^ 16 = search rules in
-    let answer = visits-refused r n (sym c.if-not-head-lawful.ensures) (sym p) in
+    let answer = visits-refused r n (sym c.if-not-head_lawful.ensures) (sym p) in
     record {
       answer = answer;
       text = refl;
@@ -41,10 +41,10 @@ pub returns-then-out-n : goal.returns-then-out-n
 returns-then-out-n g c =
     let r = report_of c.args.header c.args.visits.now in
     let n = length c.args.out.now in
-    let e = c.if-not-visits-lawful.ensures in
+    let e = c.if-not-visits_lawful.ensures in
     let wand : c.args.header.wand < 2 ^ 32 = search rules in
     let site : c.args.header.site < 2 ^ 16 = search rules in
-    let answer = short-refused r n (sym c.if-not-head-lawful.ensures) (sym e.answer) (omega (arith, c.if-out-n.true)) in
+    let answer = short-refused r n (sym c.if-not-head_lawful.ensures) (sym e.answer) (omega (arith, c.if-out-n.true)) in
     record {
       answer = answer;
       text = refl;
@@ -53,24 +53,24 @@ returns-then-out-n g c =
       check_same = refl;
     }
 
-pub overflow-mul-n : goal.overflow-mul-n
-overflow-mul-n g c = let h = few (report_of c.args.header c.args.visits.now) 0 (sym c.if-not-head-lawful.ensures) in search rules
+pub overflow_mul-n : goal.overflow_mul-n
+overflow_mul-n g c = let h = few (report_of c.args.header c.args.visits.now) 0 (sym c.if-not-head_lawful.ensures) in search rules
 
-pub overflow-add-n : goal.overflow-add-n
-overflow-add-n g c = let h = few (report_of c.args.header c.args.visits.now) 0 (sym c.if-not-head-lawful.ensures) in search rules
+pub overflow_add-n : goal.overflow_add-n
+overflow_add-n g c = let h = few (report_of c.args.header c.args.visits.now) 0 (sym c.if-not-head_lawful.ensures) in search rules
 
 pub returns : goal.returns
 returns g c =
     let r = report_of c.args.header c.args.visits.now in
     let n = length c.args.out.now in
-    let e = c.if-not-visits-lawful.ensures in
+    let e = c.if-not-visits_lawful.ensures in
     let wand : c.args.header.wand < 2 ^ 32 = search rules in
     let site : c.args.header.site < 2 ^ 16 = search rules in
-    let answer = accepted r n (sym c.if-not-head-lawful.ensures) (sym e.answer) (omega (arith, c.if-out-n.false)) in
+    let answer = accepted r n (sym c.if-not-head_lawful.ensures) (sym e.answer) (omega (arith, c.if-out-n.false)) in
     record {
       answer = answer;
-      text = ap₂ ◌++◌ c.write-sealed.ensures.text (ap (λ (k : ℕ). drop k c.args.out.now) (omega arith));
+      text = ap₂ ◌++◌ c.write_sealed.ensures.text (ap (λ (k : ℕ). drop k c.args.out.now) (omega arith));
       exact = seals-exactly r n wand site (λ _ _. e.lawful refl) _ answer;
-      seal_same = c.write-sealed.ensures.seal_same;
-      check_same = c.write-sealed.ensures.check_same;
+      seal_same = c.write_sealed.ensures.seal_same;
+      check_same = c.write_sealed.ensures.check_same;
     }

@@ -10,7 +10,7 @@ pub loop-v-preserved : goal.loop-v-preserved
 loop-v-preserved c =
     let vs = c.args.visits.now in
     let i = c.loop-v.v-index in
-    let e = c.if-not-visit-lawful.ensures in (
+    let e = c.if-not-visit_lawful.ensures in (
       c.loop-v.invariant.0 ∙ ok-more c.loop-v.last vs i _ c.loop-v-test.true (sym e.answer),
       λ h. c.loop-v.invariant.1 (lawful-here c.loop-v.last vs i _ c.loop-v-test.true (e.lawful refl) h),
     )
@@ -24,10 +24,10 @@ returns c =
       lawful = λ _. c.loop-v.invariant.1 (subst (LawfulVisits c.loop-v.last) (sym e) tt);
     }
 
-pub returns-then-not-visit-lawful : goal.returns-then-not-visit-lawful
-returns-then-not-visit-lawful c =
+pub returns-then-not-visit_lawful : goal.returns-then-not-visit_lawful
+returns-then-not-visit_lawful c =
     let vs = c.args.visits.now in
     record {
-      answer = sym (c.loop-v.invariant.0 ∙ ok-not c.loop-v.last vs c.loop-v.v-index _ c.loop-v-test.true (sym c.if-not-visit-lawful.ensures.answer));
+      answer = sym (c.loop-v.invariant.0 ∙ ok-not c.loop-v.last vs c.loop-v.v-index _ c.loop-v-test.true (sym c.if-not-visit_lawful.ensures.answer));
       lawful = λ e. absurd (false≢true e);
     }

@@ -6,7 +6,7 @@ use Rattle.reports.proofs.sealing.decipher.Goals as goal
 pub returns : goal.returns
 unfolding deciphered
 returns g c =
-    let call = c.cbc-decrypt in
+    let call = c.cbc_decrypt in
     record {
       text = all-written call.result (length c.args.text.now) _ c.args.out.now _ call.ensures.answer c.requires.long.0 c.requires.long.1 c.requires.room call.ensures.text;
       same = call.ensures.same;
