@@ -9,8 +9,8 @@ pub returns-in-Ok : goal.returns-in-Ok
 returns-in-Ok c =
     let t = told c.args.key.now (λ k. digest_answer 8 (length c.args.message.now) (length c.args.out.now))
     (λ k. checksum (belt k).image c.args.message.now) c.args.out.now _ _ _ _
-    c.in-Ok.ensures c.answer-number.ensures c.put-checksum.ensures.answer
-    c.put-checksum.ensures.text in
+    c.in-Ok.ensures c.answer_number.ensures c.put_checksum.ensures.answer
+    c.put_checksum.ensures.text in
     record { answer = t.number; text = t.output }
 
 pub returns-in-Err : goal.returns-in-Err

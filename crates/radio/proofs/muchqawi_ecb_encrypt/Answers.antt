@@ -9,8 +9,8 @@ pub returns-in-Ok : goal.returns-in-Ok
 returns-in-Ok c =
     let t = told c.args.key.now (λ k. mode_answer 16 (length c.args.message.now) (length c.args.out.now))
     (λ k. ecb (belt k).image c.args.message.now) c.args.out.now _ _ _ _
-    c.in-Ok.ensures c.answer-number.ensures c.ecb-encrypt.ensures.answer
-    c.ecb-encrypt.ensures.text in
+    c.in-Ok.ensures c.answer_number.ensures c.ecb_encrypt.ensures.answer
+    c.ecb_encrypt.ensures.text in
     record { answer = t.number; text = t.output }
 
 pub returns-in-Err : goal.returns-in-Err

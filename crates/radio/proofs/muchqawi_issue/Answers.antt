@@ -8,7 +8,7 @@ pub returns-in-Ok : goal.returns-in-Ok
 returns-in-Ok c =
     let t = told c.args.key.now (λ k. issue_answer c.args.site c.args.checkpoint (length c.args.out.now))
     (λ k. issued (belt k).image c.args.site c.args.checkpoint c.args.serial) c.args.out.now _ _ _ _
-    c.in-Ok.ensures c.answer-number.ensures c.issue.ensures.answer
+    c.in-Ok.ensures c.answer_number.ensures c.issue.ensures.answer
     c.issue.ensures.text in
     record { answer = t.number; text = t.output }
 

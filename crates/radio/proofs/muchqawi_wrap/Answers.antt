@@ -11,7 +11,7 @@ pub returns-in-Ok : goal.returns-in-Ok
 returns-in-Ok c =
     let t = told c.args.key.now (λ k. wrap_answer (length c.args.text.now) (length c.args.out.now))
     (λ k. wrapped (belt k).image (sixteen c.args.first c.args.second) c.args.text.now) c.args.out.now _ _ _ _
-    c.in-Ok.ensures c.answer-number.ensures c.wrap.ensures.answer
+    c.in-Ok.ensures c.answer_number.ensures c.wrap.ensures.answer
     (c.wrap.ensures.text ∙ ap (λ z. written c.wrap.result (wrapped (belt c.in-Ok.block.key).image z c.args.text.now) c.args.out.now) c.octets.ensures) in
     record { answer = t.number; text = t.output }
 

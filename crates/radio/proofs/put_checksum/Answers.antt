@@ -11,8 +11,8 @@ returns g c =
     let f = (g.B.Block.meaning c.args.block.now).image in
     let x = c.args.message.now in
     let out = c.args.out.now in
-    let h = given (leb (length x) 65536) (checksum f x) c.in-ok-sum.sum c.in-ok-sum.ensures.answer in
-    let l : length c.in-ok-sum.sum ≡ 8 = search rules in
+    let h = given (leb (length x) 65536) (checksum f x) c.in_ok-sum.sum c.in_ok-sum.ensures.answer in
+    let l : length c.in_ok-sum.sum ≡ 8 = search rules in
     record {
       answer =
           c.put.ensures.answer ∙ ap (λ n. cond (leb n (length out)) (Ok n) (Err ShortOutput)) l
