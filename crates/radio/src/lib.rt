@@ -114,12 +114,10 @@ pub extern "C" fn muchqawi_cbc_encrypt(
     ensures text { out.new ≡ written (keyed key.now (mode_answer 16 (length message.now) (length out.old))) (cbc_encrypt (under key.now).image (sixteen first second) message.now) out.old }
 {
     match BeltBlock::new(key) {
-        Ok(mut block) => answer_number(&cbc_encrypt(
-            &mut block,
-            octets(first, second),
-            message,
-            out,
-        )),
+        Ok(mut block) => {
+            let answer = cbc_encrypt(&mut block, octets(first, second), message, out);
+            answer_number(&answer)
+        },
         Err(refusal) => refusal.number(),
     }
 }
@@ -137,12 +135,10 @@ pub extern "C" fn muchqawi_cbc_decrypt(
     ensures text { out.new ≡ written (keyed key.now (mode_answer 16 (length message.now) (length out.old))) (cbc_decrypt (under key.now).preimage (sixteen first second) message.now) out.old }
 {
     match BeltBlock::new(key) {
-        Ok(mut block) => answer_number(&cbc_decrypt(
-            &mut block,
-            octets(first, second),
-            message,
-            out,
-        )),
+        Ok(mut block) => {
+            let answer = cbc_decrypt(&mut block, octets(first, second), message, out);
+            answer_number(&answer)
+        },
         Err(refusal) => refusal.number(),
     }
 }
@@ -160,12 +156,10 @@ pub extern "C" fn muchqawi_cfb_encrypt(
     ensures text { out.new ≡ written (keyed key.now (mode_answer 0 (length message.now) (length out.old))) (cfb_encrypt (under key.now).image (sixteen first second) message.now) out.old }
 {
     match BeltBlock::new(key) {
-        Ok(mut block) => answer_number(&cfb_encrypt(
-            &mut block,
-            octets(first, second),
-            message,
-            out,
-        )),
+        Ok(mut block) => {
+            let answer = cfb_encrypt(&mut block, octets(first, second), message, out);
+            answer_number(&answer)
+        },
         Err(refusal) => refusal.number(),
     }
 }
@@ -183,12 +177,10 @@ pub extern "C" fn muchqawi_cfb_decrypt(
     ensures text { out.new ≡ written (keyed key.now (mode_answer 0 (length message.now) (length out.old))) (cfb_decrypt (under key.now).image (sixteen first second) message.now) out.old }
 {
     match BeltBlock::new(key) {
-        Ok(mut block) => answer_number(&cfb_decrypt(
-            &mut block,
-            octets(first, second),
-            message,
-            out,
-        )),
+        Ok(mut block) => {
+            let answer = cfb_decrypt(&mut block, octets(first, second), message, out);
+            answer_number(&answer)
+        },
         Err(refusal) => refusal.number(),
     }
 }
@@ -206,12 +198,10 @@ pub extern "C" fn muchqawi_ctr_encrypt(
     ensures text { out.new ≡ written (keyed key.now (mode_answer 0 (length message.now) (length out.old))) (ctr (under key.now).image (sixteen first second) message.now) out.old }
 {
     match BeltBlock::new(key) {
-        Ok(mut block) => answer_number(&ctr_encrypt(
-            &mut block,
-            octets(first, second),
-            message,
-            out,
-        )),
+        Ok(mut block) => {
+            let answer = ctr_encrypt(&mut block, octets(first, second), message, out);
+            answer_number(&answer)
+        },
         Err(refusal) => refusal.number(),
     }
 }
@@ -229,12 +219,10 @@ pub extern "C" fn muchqawi_ctr_decrypt(
     ensures text { out.new ≡ written (keyed key.now (mode_answer 0 (length message.now) (length out.old))) (ctr (under key.now).image (sixteen first second) message.now) out.old }
 {
     match BeltBlock::new(key) {
-        Ok(mut block) => answer_number(&ctr_decrypt(
-            &mut block,
-            octets(first, second),
-            message,
-            out,
-        )),
+        Ok(mut block) => {
+            let answer = ctr_decrypt(&mut block, octets(first, second), message, out);
+            answer_number(&answer)
+        },
         Err(refusal) => refusal.number(),
     }
 }
@@ -272,13 +260,10 @@ pub extern "C" fn muchqawi_unwrap(
     ensures wiped { scratch.new ≡ replicate (length scratch.old) 0 }
 {
     match BeltBlock::new(key) {
-        Ok(mut block) => answer_number(&unwrap(
-            &mut block,
-            octets(first, second),
-            text,
-            scratch,
-            out,
-        )),
+        Ok(mut block) => {
+            let answer = unwrap(&mut block, octets(first, second), text, scratch, out);
+            answer_number(&answer)
+        },
         Err(refusal) => {
             scratch.fill(0);
             refusal.number()

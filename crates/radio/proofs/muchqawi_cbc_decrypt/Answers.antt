@@ -11,8 +11,8 @@ pub returns-in-Ok : goal.returns-in-Ok
 returns-in-Ok c =
     let t = told c.args.key.now (λ k. mode_answer 16 (length c.args.message.now) (length c.args.out.now))
     (λ k. cbc_decrypt (belt k).preimage (sixteen c.args.first c.args.second) c.args.message.now) c.args.out.now _ _ _ _
-    c.in-Ok.ensures c.answer_number.ensures c.cbc_decrypt.ensures.answer
-    (c.cbc_decrypt.ensures.text ∙ ap (λ z. written c.cbc_decrypt.result (cbc_decrypt (belt c.in-Ok.block.key).preimage z c.args.message.now) c.args.out.now) c.octets.ensures) in
+    c.in-Ok.ensures c.answer_number.ensures c.cbc_decrypt-answer.ensures.answer
+    (c.cbc_decrypt-answer.ensures.text ∙ ap (λ z. written c.cbc_decrypt-answer.result (cbc_decrypt (belt c.in-Ok.block.key).preimage z c.args.message.now) c.args.out.now) c.octets.ensures) in
     record { answer = t.number; text = t.output }
 
 pub returns-in-Err : goal.returns-in-Err

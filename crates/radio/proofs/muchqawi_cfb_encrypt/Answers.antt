@@ -11,8 +11,8 @@ pub returns-in-Ok : goal.returns-in-Ok
 returns-in-Ok c =
     let t = told c.args.key.now (λ k. mode_answer 0 (length c.args.message.now) (length c.args.out.now))
     (λ k. cfb_encrypt (belt k).image (sixteen c.args.first c.args.second) c.args.message.now) c.args.out.now _ _ _ _
-    c.in-Ok.ensures c.answer_number.ensures c.cfb_encrypt.ensures.answer
-    (c.cfb_encrypt.ensures.text ∙ ap (λ z. written c.cfb_encrypt.result (cfb_encrypt (belt c.in-Ok.block.key).image z c.args.message.now) c.args.out.now) c.octets.ensures) in
+    c.in-Ok.ensures c.answer_number.ensures c.cfb_encrypt-answer.ensures.answer
+    (c.cfb_encrypt-answer.ensures.text ∙ ap (λ z. written c.cfb_encrypt-answer.result (cfb_encrypt (belt c.in-Ok.block.key).image z c.args.message.now) c.args.out.now) c.octets.ensures) in
     record { answer = t.number; text = t.output }
 
 pub returns-in-Err : goal.returns-in-Err

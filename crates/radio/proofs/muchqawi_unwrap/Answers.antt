@@ -10,9 +10,9 @@ pub returns-in-Ok : goal.returns-in-Ok
 returns-in-Ok c =
     let t = told c.args.key.now (λ k. unwrap_answer (belt k).image (sixteen c.args.first c.args.second) c.args.text.now (length c.args.scratch.now) (length c.args.out.now))
     (λ k. take (length c.args.text.now - 16) (unwrapped (belt k).image c.args.text.now)) c.args.out.now _ _ _ _
-    c.in-Ok.ensures c.answer_number.ensures (c.unwrap.ensures.answer ∙ ap (λ z. unwrap_answer (belt c.in-Ok.block.key).image z c.args.text.now (length c.args.scratch.now) (length c.args.out.now)) c.octets.ensures)
-    c.unwrap.ensures.text in
-    record { answer = t.number; text = t.output; wiped = c.unwrap.ensures.wiped }
+    c.in-Ok.ensures c.answer_number.ensures (c.unwrap-answer.ensures.answer ∙ ap (λ z. unwrap_answer (belt c.in-Ok.block.key).image z c.args.text.now (length c.args.scratch.now) (length c.args.out.now)) c.octets.ensures)
+    c.unwrap-answer.ensures.text in
+    record { answer = t.number; text = t.output; wiped = c.unwrap-answer.ensures.wiped }
 
 pub returns-in-Err : goal.returns-in-Err
 returns-in-Err c =
