@@ -46,8 +46,8 @@ fn issued_tags_are_accepted(rt: HostRuntime) -> Result<(), Fail> {
     let mut out = [7; 26];
     assert_eq!(rt; issue(&mut bench, 1, 7, 1000, &mut out), Ok(24));
     assert!(rt; out.len() == 26);
-    assert_eq!(rt; &out[0..24], &octets::<24>(TAG)?);
-    assert_eq!(rt; &out[24..26], &[7, 7]);
+    assert_eq!(rt; &out[0..24], octets::<24>(TAG)?.as_slice());
+    assert_eq!(rt; &out[24..26], [7, 7].as_slice());
     let mut belt = BeltBlock::new(&[9; 24])?;
     for (site, checkpoint, serial) in [
         (1, 1, 0),

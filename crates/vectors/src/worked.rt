@@ -248,14 +248,15 @@ fn write(
     }
 }
 
-fn same(rt: &impl Abort, answer: &[u8], output: &[u8]) -> Result<(), Fail> {
-    assert!(rt; is(answer, output));
+fn same(rt: &impl Abort, row: usize, answer: &[u8], output: &[u8]) -> Result<(), Fail> {
+    assert!(rt; is(answer, output), "example {row}");
     Ok(())
 }
 
 // Runs the operation on a row's octets, which must answer those of its output.
 fn run(
     rt: &impl Abort,
+    row: usize,
     operation: Operation,
     key: &[u8],
     aux: &[u8],
@@ -269,23 +270,33 @@ fn run(
     let size = put(&mut room, input);
     let text = front(&room, size);
     match operation {
-        Operation::Forward => same(rt, &BeltBlock::new(key)?.forward(octets(input)?), output),
-        Operation::Backward => same(rt, &BeltBlock::new(key)?.backward(octets(input)?), output),
-        Operation::Checksum => same(rt, &checksum(&mut BeltBlock::new(key)?, text)?, output),
-        Operation::Hash => same(rt, &hash(text)?, output),
-        Operation::Expand => same(rt, &expand(key)?, output),
+        Operation::Forward => same(
+            rt,
+            row,
+            &BeltBlock::new(key)?.forward(octets(input)?),
+            output,
+        ),
+        Operation::Backward => same(
+            rt,
+            row,
+            &BeltBlock::new(key)?.backward(octets(input)?),
+            output,
+        ),
+        Operation::Checksum => same(rt, row, &checksum(&mut BeltBlock::new(key)?, text)?, output),
+        Operation::Hash => same(rt, row, &hash(text)?, output),
+        Operation::Expand => same(rt, row, &expand(key)?, output),
         _ => {
             let mut out = [7; 48];
             let size = write(rt, operation, key, aux, text, output.len() / 2, &mut out)?;
-            same(rt, front(&out, size), output)
+            same(rt, row, front(&out, size), output)
         }
     }
 }
 
-fn there_and_back(rt: &impl Abort, e: &Example) -> Result<(), Fail> {
-    run(rt, e.operation, e.key, e.aux, e.input, e.output)?;
+fn there_and_back(rt: &impl Abort, row: usize, e: &Example) -> Result<(), Fail> {
+    run(rt, row, e.operation, e.key, e.aux, e.input, e.output)?;
     match e.operation.undoing() {
-        Some(back) => run(rt, back, e.key, e.aux, e.output, e.input),
+        Some(back) => run(rt, row, back, e.key, e.aux, e.output, e.input),
         None => Ok(()),
     }
 }
@@ -293,7 +304,7 @@ fn there_and_back(rt: &impl Abort, e: &Example) -> Result<(), Fail> {
 #[test]
 fn worked_examples(rt: HostRuntime) -> Result<(), Fail> {
     for (row, e) in EXAMPLES.iter().enumerate() {
-        there_and_back(&rt, e).note(format_args!("example {row}"))?;
+        there_and_back(&rt, row, e)?;
     }
     Ok(())
 }

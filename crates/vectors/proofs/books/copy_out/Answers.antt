@@ -4,10 +4,10 @@ use Rattle.books.specs.Books.{elements}
 use Rattle.books.proofs.Reading.{kth-some, kth-none}
 use Rattle.vectors.proofs.books.copy_out.Goals as goal
 
-pub returns-in-default : goal.returns-in-default
-returns-in-default c = record {
+pub returns-in_default : goal.returns-in_default
+returns-in_default c = record {
   copied = c.loop-i.invariant.0;
-  count = omega (arith, kth-none (elements c.args.book.now) c.loop-i.i c.in-default.ensures);
+  count = omega (arith, kth-none (elements c.args.book.now) c.loop-i.i c.in_default.ensures);
 }
 
 pub loop-i-preserved : goal.loop-i-preserved
