@@ -1,5 +1,5 @@
 -- The compression of 64 octets that come as 32 and 32.
-use Rattle.std.proofs.Common.{◌≡◌, ℕ, ◌+◌, ◌-◌, ◌≤◌, List, ◌++◌, length, take, drop, replicate, sym, refl, ap, ◌∙◌, ap₂, arith}
+use Rattle.std.proofs.Common.{◌≡◌, ℕ, ◌+◌, ◌≤◌, List, ◌++◌, length, take, drop, replicate, sym, ap, ◌∙◌, ap₂, arith}
 use Rattle.std.proofs.lemmas.List.{take_at, drop_at, take-append-le, drop-append-le, length-drop, drop-drop}
 use Rattle.blocks.specs.Octets.{xor_each}
 use Rattle.belt.specs.Compression.{sixteen_at, fed, σ₁, σ₂}

@@ -1,5 +1,5 @@
 -- A key that cannot be expanded makes no block and no new key, for the same reason.
-use Rattle.std.proofs.Common.{◌≡◌, ℕ, List, length, Ok, Err, arith}
+use Rattle.std.proofs.Common.{◌≡◌, ℕ, List, length, Err, arith}
 use Rattle.std.proofs.lemmas.Bool.Decides.{nat_tests}
 use Rattle.blocks.specs.declared.answers.Refusal.{Refusal}
 use Rattle.belt.specs.Keys.{expand_answer, block_answer}

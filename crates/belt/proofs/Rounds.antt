@@ -1,5 +1,5 @@
 -- The loops of the four steps: none, one round more, and all.
-use Rattle.std.proofs.Common.{◌≡◌, ℕ, ◌+◌, List, sym, refl, ap, ◌∙◌, subst, ap₂, add-one}
+use Rattle.std.proofs.Common.{◌≡◌, ℕ, ◌+◌, List, sym, refl, ap, ◌∙◌, ap₂, add-one}
 use Rattle.belt.specs.Cipher.{round_forward, round_backward, rounds_up, rounds_down, swaps_forward, swaps_backward, loaded, stored, encrypt, decrypt}
 use Rattle.belt.specs.declared.cipher.Quad.{Quad}
 

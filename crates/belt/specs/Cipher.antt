@@ -1,5 +1,5 @@
 -- The BelT block: sixteen octets as four words through eight rounds, under a key of eight words.
-use Rattle.std.specs.Prelude.{ℕ, zero, suc, ◌+◌, ◌-◌, ◌*◌, ◌%◌, List, ◌++◌, slice_index}
+use Rattle.std.specs.Prelude.{ℕ, zero, suc, ◌-◌, ◌*◌, ◌%◌, List, ◌++◌, slice_index}
 use Rattle.blocks.specs.Fields.{field}
 use Rattle.blocks.specs.Steps.{Step}
 use Rattle.belt.specs.Words.{◌⊞◌, ◌⊟◌, ◌⊕◌, word_at, g}

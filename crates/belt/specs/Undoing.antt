@@ -1,8 +1,8 @@
 -- The rounds backward undo the rounds forward, and the other way round. `g` stays shut: of it only the bound is used.
-use Rattle.std.specs.Prelude.{◌≡◌, ℕ, zero, suc, ◌+◌, ◌-◌, ◌*◌, ◌^◌, ◌<◌, List, [], ◌∷◌, ◌++◌, get_or, refl}
+use Rattle.std.specs.Prelude.{◌≡◌, ℕ, zero, suc, ◌+◌, ◌-◌, ◌*◌, ◌^◌, ◌<◌, List, ◌++◌, refl}
 use Rattle.std.proofs.Common.{ap, ◌∙◌, arith, lit<}
 use Rattle.blocks.specs.Octets.{Octets, Sixteen}
-use Rattle.blocks.specs.Fields.{field, number}
+use Rattle.blocks.specs.Fields.{field}
 use Rattle.blocks.specs.Steps.{Reversible}
 use Rattle.blocks.specs.Octetwise.{xor-undo}
 use Rattle.blocks.proofs.Numbers.{number-field, field-number, octets-field, octets-append, listed}

@@ -1,5 +1,5 @@
 -- Numbers and their octets undo each other, over any width; and the same octets as `to_le_bytes` and `from_le_bytes` write them.
-use Rattle.std.proofs.Common.{◌≡◌, ℕ, zero, suc, ◌+◌, ◌*◌, ◌/◌, ◌%◌, ◌^◌, ◌<◌, List, [], ◌∷◌, ◌++◌, length, get_or, sym, refl, ap, ◌∙◌, subst, ap₂, pow-suc, arith, lit<}
+use Rattle.std.proofs.Common.{◌≡◌, ℕ, zero, suc, ◌+◌, ◌/◌, ◌%◌, ◌^◌, ◌<◌, List, [], ◌∷◌, ◌++◌, length, get_or, sym, refl, ap, ◌∙◌, subst, ap₂, pow-suc, arith, lit<}
 use Rattle.std.proofs.lemmas.Nat.{shr-shr}
 use Rattle.blocks.specs.Octets.{Octets, part}
 use Rattle.blocks.specs.Fields.{field, number}

@@ -1,8 +1,6 @@
 -- Reversible meanings: of a pair, and what they say of a preimage.
-use Rattle.std.specs.Prelude.{◌≡◌, ℕ, List}
 use Rattle.std.proofs.Common.{ap, sym, ◌∙◌}
-use Rattle.blocks.specs.Octets.{Sixteen}
-use Rattle.blocks.specs.Steps.{Step, Reversible, OnePreimage, OnlyOne, and_then}
+use Rattle.blocks.specs.Steps.{Step, Reversible, OnePreimage, and_then}
 
 pub reversible-pair : (m n : Step) → Reversible m → Reversible n → Reversible (and_then m n)
 reversible-pair m n a b = record {

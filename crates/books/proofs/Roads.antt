@@ -2,7 +2,7 @@
 use Rattle.std.proofs.Common.{◌≡◌, ℕ, zero, suc, ◌+◌, ◌<◌, ◌≤◌, cond, eqb, List, [], ◌∷◌, ◌++◌, length, get_or, sym, refl, ap, subst, arith}
 use Rattle.std.proofs.lemmas.List.{get_or-set_same, get_or-set_other, length-set}
 use Rattle.std.proofs.lemmas.Bool.{eq-eqb, cond-true}
-use Rattle.books.specs.Walks.{after, put, walk, numbers, times, last_of}
+use Rattle.books.specs.Walks.{after, put, walk, times, last_of}
 
 -- From n by the numbers of the list, all of them cells, to e.
 abbrev pub Road : List ℕ → ℕ → List ℕ → ℕ → Type 0

@@ -1,5 +1,5 @@
 -- What wrapping and unwrapping answer.
-use Rattle.std.specs.Prelude.{◌≡◌, ℕ, ◌+◌, ◌-◌, ◌≤◌, Bool, true, false, cond, ◌&&◌, List, length, take, drop, Ok, Err, Result, nat_le}
+use Rattle.std.specs.Prelude.{◌≡◌, ℕ, ◌+◌, ◌-◌, ◌≤◌, Bool, cond, ◌&&◌, List, length, take, drop, Ok, Err, Result, nat_le}
 use Rattle.blocks.specs.Same.{same}
 use Rattle.blocks.specs.declared.answers.Refusal.{Refusal}
 use Rattle.blocks.specs.declared.answers.Refusal.TheVariants.{ShortOutput, KeyTextLength, WrappedLength, HeaderDiffers}

@@ -1,7 +1,7 @@
 -- Writing a body and reading it undo one another.
-use Rattle.std.proofs.Common.{◌≡◌, ℕ, zero, suc, ◌+◌, ◌-◌, ◌*◌, ◌^◌, ◌<◌, ◌≤◌, List, [], ◌∷◌, ◌++◌, length, take, drop, sym, refl, ap, ◌∙◌, ap₂, arith, lit<}
+use Rattle.std.proofs.Common.{◌≡◌, ℕ, zero, suc, ◌+◌, ◌*◌, ◌≤◌, List, [], ◌∷◌, ◌++◌, length, take, drop, sym, refl, ap, ◌∙◌, ap₂, arith, lit<}
 use Rattle.std.specs.List.{flat_map}
-use Rattle.std.proofs.lemmas.List.{append_assoc, length-append, length-drop, take-append-drop, drop-drop, nil_from_length}
+use Rattle.std.proofs.lemmas.List.{length-drop, take-append-drop, drop-drop, nil_from_length}
 use Rattle.reports.specs.declared.visit.Visit.{Visit}
 use Rattle.blocks.specs.Octets.{Octets}
 use Rattle.blocks.specs.Fields.{field, number}

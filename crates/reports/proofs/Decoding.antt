@@ -1,5 +1,5 @@
 -- The steps of opening, put together.
-use Rattle.std.proofs.Common.{◌≡◌, ℕ, ◌+◌, ◌-◌, ◌<◌, ◌≤◌, Bool, true, false, leb, List, [], ◌∷◌, ◌++◌, length, take, drop, Some, None, Ok, Err, Option, Result, sym, refl, ap, ◌∙◌, subst, ap₂, arith}
+use Rattle.std.proofs.Common.{◌≡◌, ℕ, ◌+◌, ◌-◌, ◌<◌, ◌≤◌, Bool, true, false, leb, List, length, take, drop, Some, None, Ok, Err, Option, Result, sym, refl, ap, ◌∙◌, ap₂, arith}
 use native.Mathlib.Nat.{sub-zero}
 use Rattle.std.specs.Str.{bytes_eq}
 use Rattle.std.proofs.lemmas.List.{length-drop, take_all}
@@ -9,14 +9,12 @@ use Rattle.reports.specs.declared.visit.Header.{Header}
 use Rattle.reports.specs.declared.fault.Fault.{Fault}
 use Rattle.blocks.specs.declared.answers.Refusal.TheVariants.{ReportLength, ReportChecksum, ReportStart, TooFewCells}
 use Rattle.reports.specs.Layout.{Report, wand_at, num_at, header_at, report_at}
-use Rattle.reports.specs.Sealing.{Sealer, LawfulSealer, start_size, sum_size, start_of, deciphered, sum_of, sealed}
+use Rattle.reports.specs.Sealing.{Sealer, LawfulSealer, start_size, sum_size, start_of, deciphered, sum_of}
 use Rattle.reports.specs.Faults.{in_text, in_book, rule, unless}
 use Rattle.reports.specs.Opening.{body_fault, count_of, sized, front_part, body_in, decode_answer, open_answer, opened_of, held_after}
-use Rattle.reports.specs.Exact.{Sealed, OpensExactly}
+use Rattle.reports.specs.Exact.{OpensExactly}
 use Rattle.reports.specs.declared.visit.Visit.{Visit}
 use Rattle.blocks.specs.Octets.{Octets}
-use Rattle.blocks.specs.Steps.{Step}
-use Rattle.reports.specs.declared.office.Opened.{Opened}
 use Rattle.reports.proofs.Opens.{opens-sealed, opened-is-sealed}
 
 -- The parts of a text, as the code cuts them.

@@ -1,16 +1,14 @@
 -- Opening accepts exactly the texts that sealing makes of lawful reports, and answers the report.
-use Rattle.std.proofs.Common.{◌≡◌, ℕ, zero, suc, ◌+◌, ◌-◌, ◌*◌, ◌/◌, ◌<◌, ◌≤◌, true, false, ◌&&◌, eqb, ltb, leb, List, [], ◌∷◌, ◌++◌, length, take, drop, Ok, Err, Result, sym, refl, ap, ◌∙◌, subst, ap₂, inl, inr, arith}
-use Rattle.std.specs.Str.{bytes_eq}
+use Rattle.std.proofs.Common.{◌≡◌, ℕ, ◌-◌, ◌≤◌, false, eqb, leb, List, ◌++◌, length, take, drop, Ok, Err, sym, refl, ap, ◌∙◌, subst, ap₂, inl, inr, arith}
 use Rattle.std.proofs.lemmas.Slice.Eq.{bytes_eq-Decides}
-use Rattle.std.proofs.lemmas.List.{append_assoc, length-append, length-drop, length-take-le, take-append-drop, take-append-le, take-take, take_at, drop_at}
+use Rattle.std.proofs.lemmas.List.{length-append, length-drop, length-take-le, take-append-drop, take-append-le, take-take, take_at, drop_at}
 use Rattle.std.proofs.lemmas.Bool.{and_parts, and_from, leb-true, eqb-true, le-leb, eq-eqb}
-use Rattle.reports.specs.declared.fault.Fault.{Fault}
 use Rattle.blocks.specs.declared.answers.Refusal.TheVariants.{ReportLength, ReportChecksum, ReportStart, TooFewCells}
 use Rattle.blocks.specs.Octets.{Octets, Sixteen}
-use Rattle.reports.specs.Layout.{Report, head_size, visit_size, most_visits, body_size, body_of, wand_at, num_at, report_at}
+use Rattle.reports.specs.Layout.{Report, head_size, most_visits, body_size, body_of, wand_at, num_at, report_at}
 use Rattle.reports.specs.Lawful.{Lawful}
 use Rattle.reports.specs.Sealing.{Sealer, LawfulSealer, start_size, sum_size, text_size, seed_of, start_of, enciphered, deciphered, sum_of, summed, sealed}
-use Rattle.reports.specs.Faults.{in_text, in_book, rule, unless}
+use Rattle.reports.specs.Faults.{in_text, in_book, rule}
 use Rattle.reports.specs.Opening.{sum_fault, body_fault, start_fault, count_of, sized, front_part, body_in, open_answer}
 use Rattle.reports.specs.Exact.{Sealed}
 use Rattle.reports.specs.Cases.{OddLengths}

@@ -1,5 +1,5 @@
 -- A body breaks no rule exactly where its report is lawful.
-use Rattle.std.proofs.Common.{◌≡◌, ℕ, zero, suc, ◌+◌, ◌-◌, ◌*◌, ◌^◌, ◌<◌, ◌≤◌, Bool, true, false, cond, ◌&&◌, eqb, ltb, leb, List, [], ◌∷◌, ◌++◌, length, take, drop, Some, None, Ok, Err, Option, Result, sym, refl, ap, ◌∙◌, subst, ap₂, arith}
+use Rattle.std.proofs.Common.{◌≡◌, ℕ, zero, suc, ◌+◌, ◌*◌, ◌≤◌, Bool, true, false, ◌&&◌, eqb, ltb, leb, List, [], ◌∷◌, length, take, drop, Some, None, Ok, Err, Option, Result, refl, ap, ◌∙◌, arith}
 use Rattle.std.specs.Str.{bytes_eq}
 use Rattle.std.proofs.lemmas.Slice.Eq.{bytes_eq-Decides}
 use Rattle.std.proofs.lemmas.List.{length-drop}
@@ -9,7 +9,7 @@ use Rattle.reports.specs.declared.fault.Fault.{Fault}
 use Rattle.blocks.specs.declared.answers.Refusal.TheVariants.{ReportHeader, UnlawfulVisit}
 use Rattle.blocks.specs.Octets.{Octets}
 use Rattle.reports.specs.Layout.{Report, letters, head_size, visit_size, most_visits, body_size, body_of, visit_at, visits_at, wand_at, num_at, count_at, site_at, report_at}
-use Rattle.reports.specs.Lawful.{Lawful, LawfulVisit, LawfulVisits, most_number}
+use Rattle.reports.specs.Lawful.{Lawful, LawfulVisits, most_number}
 use Rattle.reports.specs.Sealing.{numbered, visit_ok}
 use Rattle.reports.specs.Faults.{in_body, rule, unless, or_else}
 use Rattle.reports.specs.Opening.{head_fault, visits_fault, body_fault}

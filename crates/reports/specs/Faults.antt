@@ -1,5 +1,5 @@
 -- Faults: what is wrong with a text, in which layer, and where.
-use Rattle.std.specs.Prelude.{ℕ, Bool, cond, Some, None, Ok, Err, Option, Result}
+use Rattle.std.specs.Prelude.{ℕ, Bool, cond, Some, None, Err, Option, Result}
 use Rattle.blocks.specs.declared.answers.Refusal.{Refusal}
 use Rattle.reports.specs.declared.fault.Fault.{Fault}
 use Rattle.reports.specs.declared.fault.Layer.{Layer}

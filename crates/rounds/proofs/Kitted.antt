@@ -1,5 +1,5 @@
 -- The kit accepts exactly what wrapping makes of a key: from what unwrapping does.
-use Rattle.std.proofs.Common.{◌≡◌, ℕ, ◌-◌, ◌*◌, ◌≤◌, Bool, true, false, cond, leb, List, ◌++◌, length, take, drop, replicate, Ok, Err, Result, sym, refl, ap, ◌∙◌, subst, ap₂, arith}
+use Rattle.std.proofs.Common.{◌≡◌, ℕ, ◌-◌, ◌*◌, Bool, true, false, cond, leb, List, length, take, drop, replicate, Ok, Err, Result, sym, refl, ap, ◌∙◌, subst, ap₂, arith}
 use Rattle.std.proofs.lemmas.List.{append_cancel_right, length-replicate}
 use Rattle.std.proofs.lemmas.Bool.{cond-true, le-leb}
 use Rattle.std.proofs.lemmas.Bool.Decides.{nat_tests}
@@ -9,12 +9,12 @@ use Rattle.blocks.specs.Written.{written}
 use Rattle.blocks.specs.declared.answers.Refusal.{Refusal}
 use Rattle.blocks.specs.declared.answers.Refusal.TheVariants.{KeyLength}
 use Rattle.belt.specs.Keys.{key_length}
-use Rattle.modes.specs.Wrapping.{wrapped, unwrapped}
+use Rattle.modes.specs.Wrapping.{unwrapped}
 use Rattle.modes.specs.WrapAnswers.{unwrap_answer}
 use Rattle.modes.specs.WrapExact.{KeyText, Found, UnwrapsExactly}
 use Rattle.modes.proofs.WrapAnswered.{exactly}
 use Rattle.rounds.specs.Kits.{kit_keys, kit_room, key_only, kit_answer}
-use Rattle.rounds.specs.KitExact.{Key, FromKey, KitExact}
+use Rattle.rounds.specs.KitExact.{Key, KitExact}
 
 -- An accepted kit has an unwrapped key of a known length.
 of-key : (t : Bool) (m n : ℕ) → cond t (Ok (3 * m)) (Err KeyLength) ≡ Ok n → (t ≡ true) × (n ≡ 3 * m)

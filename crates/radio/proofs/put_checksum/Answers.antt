@@ -1,4 +1,4 @@
-use Rattle.std.proofs.Common.{◌≡◌, cond, leb, length, Ok, Err, sym, ap, ◌∙◌, arith, rules}
+use Rattle.std.proofs.Common.{◌≡◌, cond, leb, length, Ok, Err, sym, ap, ◌∙◌, rules}
 use Rattle.std.proofs.lemmas.Bool.{cond-true}
 use Rattle.blocks.specs.Written.{written}
 use Rattle.blocks.specs.declared.answers.Refusal.TheVariants.{ShortOutput}

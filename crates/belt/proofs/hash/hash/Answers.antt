@@ -1,7 +1,5 @@
-use Rattle.std.proofs.Common.{◌≡◌, ◌+◌, ◌-◌, ◌*◌, ◌/◌, length, drop, sym, ap, ◌∙◌, ap₂, arith, rules}
-use Rattle.std.proofs.lemmas.Bool.Decides.{nat_tests}
-use Rattle.belt.specs.Hash.{start, absorbed_all, hash_of, hash_answer}
-use Rattle.belt.proofs.Hashing.{absorbed-none, absorbed-more, absorbed-all, accepted}
+use Rattle.std.proofs.Common.{arith}
+use Rattle.belt.proofs.Hashing.{absorbed-none, absorbed-more, accepted}
 use Rattle.belt.proofs.hash.hash.Goals as goal
 
 pub loop-i-init : goal.loop-i-init

@@ -1,4 +1,4 @@
-use Rattle.std.proofs.Common.{◌≡◌, ℕ, length, arith, rules}
+use Rattle.std.proofs.Common.{◌≡◌, length, arith, rules}
 use Rattle.blocks.specs.Octets.{Octets, part}
 use Rattle.blocks.specs.Fields.{number}
 use Rattle.blocks.proofs.Numbers.{reads, reads-back}

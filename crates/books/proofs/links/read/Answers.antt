@@ -1,4 +1,4 @@
-use Rattle.std.proofs.Common.{◌≡◌, ℕ, ◌+◌, sym, ap, ◌∙◌, subst, arith}
+use Rattle.std.proofs.Common.{◌≡◌, ℕ, ◌+◌, sym, ap, subst, arith}
 use Rattle.books.specs.Lists.{kth}
 use Rattle.books.specs.Chains.{items}
 use Rattle.books.proofs.Changes.{length-items}

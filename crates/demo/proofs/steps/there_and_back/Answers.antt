@@ -1,4 +1,4 @@
-use Rattle.std.proofs.Common.{◌≡◌, rules}
+use Rattle.std.proofs.Common.{rules}
 use Rattle.blocks.specs.Octets.{Sixteen}
 use Rattle.demo.proofs.steps.there_and_back.Goals as goal
 

@@ -1,4 +1,4 @@
-use Rattle.std.proofs.Common.{◌≡◌, ℕ, ◌<◌, length, get_or, sym, refl, ap, ◌∙◌, ap₂, arith, rules, below_more}
+use Rattle.std.proofs.Common.{◌≡◌, get_or, ap, ◌∙◌, ap₂, arith, below_more}
 use lib.Bits.{bit_xor, bit_or, xor_self}
 use Rattle.std.proofs.lemmas.List.{ext_get_or}
 use Rattle.std.proofs.lemmas.Bool.{eqb-true, eq-eqb}

@@ -1,4 +1,4 @@
-use Rattle.std.proofs.Common.{◌≡◌, ◌-◌, length, take, drop, sym, ap, ◌∙◌, ap₂, arith, rules}
+use Rattle.std.proofs.Common.{◌≡◌, ◌-◌, length, take, drop, rules}
 use Rattle.blocks.specs.Octets.{xor_each}
 use Rattle.modes.specs.Wrapping.{step_number}
 use Rattle.modes.proofs.WrapInPlace.{unwrapped-in-place}

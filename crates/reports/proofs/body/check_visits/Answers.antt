@@ -1,4 +1,4 @@
-use Rattle.std.proofs.Common.{Ok, sym, refl, ap, ◌∙◌}
+use Rattle.std.proofs.Common.{Ok, sym, ap, ◌∙◌}
 use Rattle.reports.specs.Faults.{unless}
 use Rattle.reports.proofs.Turns.{fault-start, fault-more, fault-found, fault-none}
 use Rattle.reports.proofs.body.check_visits.Goals as goal

@@ -1,6 +1,4 @@
-use Rattle.std.proofs.Common.{◌≡◌, drop, ◌∙◌}
-use Rattle.reports.specs.Places.{number_at}
-use Rattle.reports.specs.Layout.{visit_at}
+use Rattle.std.proofs.Common.{◌∙◌}
 use Rattle.reports.proofs.FieldsAt.{at_drop}
 use Rattle.reports.proofs.body.visit_at.Goals as goal
 

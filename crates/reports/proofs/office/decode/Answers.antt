@@ -1,8 +1,8 @@
-use Rattle.std.proofs.Common.{◌≡◌, true, false, Ok, Err, sym, refl, ap, ◌∙◌, arith}
+use Rattle.std.proofs.Common.{◌≡◌, Err, refl, ap, ◌∙◌, arith}
 use Rattle.std.proofs.lemmas.Result.{err_from_is_err_and}
 use Rattle.std.proofs.lemmas.Bool.{false≢true}
 use Rattle.blocks.specs.Steps.{Step}
-use Rattle.reports.specs.Sealing.{Sealer, sealer, start_of}
+use Rattle.reports.specs.Sealing.{sealer, start_of}
 use Rattle.reports.proofs.Decoding.{sum-test, body_is, decode-sum, decode-body, decode-start, decode-all}
 use Rattle.reports.proofs.office.decode.Goals as goal
 

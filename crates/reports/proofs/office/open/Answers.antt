@@ -1,4 +1,4 @@
-use Rattle.std.proofs.Common.{◌≡◌, ℕ, true, false, List, ◌++◌, length, drop, Ok, Err, Result, sym, refl, ap, ◌∙◌, subst, ap₂, arith, rules}
+use Rattle.std.proofs.Common.{◌≡◌, ℕ, ◌++◌, length, drop, Ok, Err, Result, sym, refl, ap, ◌∙◌, subst, ap₂, arith, rules}
 use Rattle.std.proofs.lemmas.Result.{err_from_is_err_and}
 use Rattle.std.proofs.lemmas.Bool.{true≢false}
 use Rattle.blocks.specs.Octets.{Octets}
@@ -8,7 +8,7 @@ use Rattle.reports.specs.declared.fault.Fault.{Fault}
 use Rattle.reports.specs.declared.office.Opened.{Opened}
 use Rattle.reports.specs.declared.visit.Header.{Header}
 use Rattle.reports.specs.Layout.{head_size, visits_at, report_at}
-use Rattle.reports.specs.Sealing.{Sealer, LawfulSealer, sealer}
+use Rattle.reports.specs.Sealing.{LawfulSealer, sealer}
 use Rattle.reports.specs.Faults.{in_book}
 use Rattle.reports.specs.Opening.{count_of, body_in, decode_answer, opened_of, held_after, free_cells_in}
 use Rattle.reports.specs.Exact.{OpensExactly}

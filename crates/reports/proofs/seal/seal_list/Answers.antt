@@ -1,7 +1,6 @@
-use Rattle.std.proofs.Common.{◌≡◌, ℕ, ◌^◌, ◌<◌, true, ◌++◌, length, drop, sym, refl, ap, ◌∙◌, ap₂, arith, rules}
+use Rattle.std.proofs.Common.{ℕ, ◌^◌, ◌<◌, ◌++◌, length, drop, sym, refl, ap, ◌∙◌, ap₂, arith, rules}
 use Rattle.std.proofs.lemmas.Bool.{false≢true}
 use Rattle.reports.specs.Layout.{report_of}
-use Rattle.reports.specs.Sealing.{head_ok, visits_ok, text_size}
 use Rattle.reports.proofs.Sealable.{few, head-refused, visits-refused, short-refused, accepted, seals-exactly}
 use Rattle.reports.proofs.seal.seal_list.Goals as goal
 

@@ -1,10 +1,9 @@
-use Rattle.std.proofs.Common.{◌≡◌, ℕ, ◌-◌, List, ◌++◌, length, take, sym, refl, ap, ◌∙◌, ap₂, arith, rules}
+use Rattle.std.proofs.Common.{◌≡◌, ◌-◌, ◌++◌, length, take, ap, ◌∙◌, ap₂, arith, rules}
 use native.Mathlib.Nat.{sub-zero}
 use borrow.Rule.Slice.PartMut.{put_mid}
 use Rattle.blocks.specs.Steps.{Step}
-use Rattle.reports.specs.Layout.{Report, report_of, body_of}
+use Rattle.reports.specs.Layout.{report_of, body_of}
 use Rattle.reports.specs.Sealing.{start_of, sealed, enciphered, sum_of}
-use Rattle.reports.proofs.Bodies.{length-body}
 use Rattle.reports.proofs.Writes.{mid-overlaid, write-three}
 use Rattle.reports.proofs.seal.write_sealed.Goals as goal
 

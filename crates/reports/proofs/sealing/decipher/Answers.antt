@@ -1,4 +1,4 @@
-use Rattle.std.proofs.Common.{length, arith}
+use Rattle.std.proofs.Common.{length}
 use Rattle.reports.specs.Sealing.{deciphered}
 use Rattle.reports.proofs.Ciphers.{all-written}
 use Rattle.reports.proofs.sealing.decipher.Goals as goal

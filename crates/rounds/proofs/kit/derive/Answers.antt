@@ -1,4 +1,4 @@
-use Rattle.std.proofs.Common.{◌≡◌, ◌++◌, length, ◌∙◌, ap₂, arith, rules}
+use Rattle.std.proofs.Common.{◌++◌, length, ◌∙◌, ap₂, arith, rules}
 use Rattle.rounds.proofs.Joins.{put_three}
 use Rattle.rounds.proofs.kit.derive.Goals as goal
 

@@ -1,7 +1,7 @@
-use Rattle.std.proofs.Common.{◌≡◌, ◌++◌, length, drop, sym, ap, ◌∙◌, ap₂, arith, lit≤, rules}
+use Rattle.std.proofs.Common.{◌≡◌, ◌++◌, length, drop, ap, ◌∙◌, ap₂, arith}
 use Rattle.std.proofs.lemmas.Bool.Decides.{nat_tests}
 use Rattle.modes.specs.Checksum.{checksum}
-use Rattle.rounds.specs.Tags.{issued, tag_head}
+use Rattle.rounds.specs.Tags.{issued}
 use Rattle.modes.proofs.Eight.{sum-given}
 use Rattle.rounds.proofs.tag.issue.Goals as goal
 

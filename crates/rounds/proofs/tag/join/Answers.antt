@@ -1,4 +1,4 @@
-use Rattle.std.proofs.Common.{◌++◌, replicate, ◌∙◌, ap₂, arith, lit≤, rules}
+use Rattle.std.proofs.Common.{◌++◌, replicate, ◌∙◌, ap₂, lit≤, rules}
 use Rattle.std.proofs.lemmas.List.{places}
 use Rattle.rounds.proofs.Joins.{put-after}
 use Rattle.rounds.proofs.tag.join.Goals as goal

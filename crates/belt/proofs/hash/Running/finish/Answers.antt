@@ -1,4 +1,3 @@
-use Rattle.std.proofs.Common.{rules}
 use Rattle.belt.proofs.hash.Running.finish.Goals as goal
 
 pub returns : goal.returns
