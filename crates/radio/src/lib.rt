@@ -1,5 +1,6 @@
 // The face for the radio firmware: C functions on numbers and octets over the BelT block. Each answers the refusal's number, or zero.
-// A slice is a pointer and a length in C. include/muchqawi.h says what each function takes and the caller's duties.
+// A slice is a pointer and a length in C. The crate radio_c, a static library, exports them under the same names, since a library of
+// this language exports nothing; include/muchqawi.h says what each function takes and the caller's duties.
 #![tactic(auto)]
 
 ghost use Rattle.std.specs.Prelude.{◌≡◌, ℕ, ◌-◌, ◌++◌, length, take, replicate, if◌then◌else◌, Ok, Err, nat_le};
