@@ -4,13 +4,13 @@
 #[cfg(test)]
 mod block;
 #[cfg(test)]
-mod books;
+mod book;
 #[cfg(test)]
 mod keys;
 #[cfg(test)]
 mod kit;
 #[cfg(test)]
-mod modes;
+mod mode;
 #[cfg(test)]
 mod tags;
 #[cfg(test)]

@@ -1,5 +1,5 @@
 // The worked examples: each row is run through its public call, and backwards where a call undoes that.
-use crate::modes::Call;
+use crate::mode::Call;
 use crate::text::{front, is, octets, put, sixteen};
 use belt::BeltBlock;
 use belt::hash::hash;

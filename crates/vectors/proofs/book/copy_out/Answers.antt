@@ -2,7 +2,7 @@ use Rattle.std.proofs.Common.{[], ◌∷◌, ◌++◌, sym, ap, ◌∙◌, arith
 use Rattle.std.proofs.lemmas.List.{take_more_set}
 use Rattle.books.specs.Books.{elements}
 use Rattle.books.proofs.Reading.{kth-some, kth-none}
-use Rattle.vectors.proofs.books.copy_out.Goals as goal
+use Rattle.vectors.proofs.book.copy_out.Goals as goal
 
 pub returns-in_default : goal.returns-in_default
 returns-in_default c = record {
