@@ -1,6 +1,6 @@
 // The checksum of a message.
 ghost use Rattle.std.specs.Prelude.{◌≡◌, ◌<◌, ◌≤◌, length, take};
-ghost use Rattle.modes.specs.Checksum.{whole_mark, short_mark, padded, closed, checksum as sum, checksum_answer};
+ghost use Rattle.modes.specs.Checksum.{whole_mark, short_mark, padded, closed, checksum, checksum_answer};
 
 use crate::parts::load;
 use blocks::octets::{LONGEST, xor};
@@ -19,7 +19,7 @@ pub fn checksum<B: Block>(block: &mut B, message: &[u8]) -> Result<[u8; 8], Refu
 
 // The last image of the state, after all pieces.
 fn absorb<B: Block>(block: &mut B, message: &[u8]) -> [u8; 16]
-    ensures answer { take 8 result ≡ sum (B.meaning block.old).image message.now }
+    ensures answer { take 8 result ≡ checksum (B.meaning block.old).image message.now }
     ensures same { B.meaning block.new ≡ B.meaning block.old }
 {
     let n = message.len();

@@ -1,6 +1,6 @@
 -- Numbers at places of a text.
 use Rattle.std.proofs.Common.{◌≡◌, ℕ, zero, suc, ◌+◌, ◌^◌, ◌<◌, ◌≤◌, List, [], ◌∷◌, length, get_or, take, drop, sym, refl, ap, ◌∙◌, add-zero, arith, lit<}
-use Rattle.std.specs.List.{AllByRecursion as All}
+use Rattle.std.specs.List.{AllByRecursion}
 use Rattle.std.proofs.lemmas.List.{get_or-drop, drop-drop, length-drop, length-take-le}
 use Rattle.blocks.specs.Octets.{Octets}
 use Rattle.blocks.specs.Fields.{field, number}
@@ -18,7 +18,7 @@ pub at_lt : (at w : ℕ) (x : List ℕ) → Octets x → at + w ≤ length x →
 at_lt at w x o h =
     rw (length-take-le w (drop at x) (omega (arith, length-drop at x))) at (number_lt (take w (drop at x)) (octets-take w (drop at x) (octets-drop at x o)))
 
-pub octets-all : (x : List ℕ) → All (λ d. d < 256) x → Octets x
+pub octets-all : (x : List ℕ) → AllByRecursion (λ d. d < 256) x → Octets x
 octets-all [] h = λ k. lit< tt
 octets-all (y ∷ x) h = λ k. elim k as (λ m. get_or (y ∷ x) m 0 < 256) [ zero ↦ h.0 | suc m ↦ octets-all x h.1 m ]
 
