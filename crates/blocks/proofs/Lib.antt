@@ -1,2 +1,3 @@
+pub mod FromFn
 pub mod Numbers
 pub mod Sameness

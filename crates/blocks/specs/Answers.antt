@@ -1,5 +1,5 @@
 -- The number of each refusal; an accepted call's number is zero.
-use Rattle.std.specs.Prelude.{◌≡◌, ℕ, Ok, Err, Result}
+use Rattle.std.specs.Prelude.{◌≡◌, ◌↔◌, ◌==◌, ℕ, Bool, IsTrue, Ok, Err, Result}
 use Rattle.blocks.specs.declared.answers.Refusal.{Refusal}
 use Rattle.blocks.specs.declared.answers.Refusal.TheVariants as refusal
 
@@ -41,3 +41,9 @@ answer_number (Err e) = refusal_number e
 -- No two refusals share a number.
 abbrev pub NumbersApart : Type 0
 NumbersApart = (x y : Refusal) → refusal_number x ≡ refusal_number y → x ≡ y
+
+-- The test tells whether two refusals are the same one, and compares their numbers.
+abbrev pub TellsRefusals : (Refusal → Refusal → Bool) → Type 0
+TellsRefusals eq =
+    ((x y : Refusal) → eq x y ≡ (refusal_number x == refusal_number y))
+    × ((x y : Refusal) → IsTrue (eq x y) ↔ (x ≡ y))

@@ -1,12 +1,9 @@
 // Why a call refuses, and the number that says so.
-ghost use Rattle.std.specs.Prelude.{◌≡◌, ◌↔◌, ◌==◌, IsTrue};
+ghost use Rattle.std.specs.Prelude.{◌≡◌};
 ghost use Rattle.blocks.specs.Answers.{refusal_number, answer_number, NumbersApart};
-ghost use Rattle.std.specs.Cmp.Rules.{comparing};
-ghost use Rattle.std.proofs.Common.{rules};
-ghost use Rattle.std.specs.Ordering.{on};
 
 // Every refusal of the product. The tens say whose hand is behind it: the door, the guard, the firmware, the office, the key room.
-#[derive(Clone, Copy, Debug)]
+#[derive(Clone, Copy, Debug, PartialEq, Eq)]
 pub enum Refusal {
     // The tag text does not have 24 octets.
     TagLength = 11,
@@ -74,23 +71,6 @@ impl Refusal {
     {
         self as u8
     }
-}
-
-impl PartialEq for Refusal {
-    ghost eq = { on refusal_number ◌==◌ };
-
-    ghost laws = { Prim.search (comparing, rules) };
-
-    fn eq(&self, other: &Refusal) -> bool
-        ensures numbers { result ≡ (refusal_number self.now == refusal_number other.now) }
-        ensures same { IsTrue result ↔ (self.now ≡ other.now) }
-    {
-        self.number() == other.number()
-    }
-}
-
-impl Eq for Refusal {
-    ghost laws = { Prim.search (comparing, rules) };
 }
 
 // The number of an answer: zero where the call was accepted.

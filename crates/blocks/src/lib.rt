@@ -4,6 +4,7 @@
 ghost use Rattle.std.specs.Prelude.{◌≡◌};
 ghost use Rattle.blocks.specs.Steps.{Step, Reversible, OnePreimage};
 ghost use Rattle.blocks.specs.Fields.{FieldsUndo};
+ghost use Rattle.blocks.specs.Answers.{TellsRefusals};
 
 pub mod answers;
 pub mod bench;
@@ -55,8 +56,9 @@ pub trait Block {
 }
 
 // The laws of the vocabulary: under every reversible meaning each sixteen octets are the image of exactly one block, and at every width
-// numbers and their octets undo each other.
+// numbers and their octets undo each other; two refusals are equal exactly where they are the same one, which their numbers tell.
 pub fn vocabulary_stands()
     ensures one { OnePreimage }
     ensures fields { FieldsUndo }
+    ensures equality { TellsRefusals ⟦<Refusal as PartialEq>⟧.eq }
 {}

@@ -1,7 +1,9 @@
 // Sixteen octets, and numbers in octets with the least octet first.
-ghost use Rattle.std.specs.Prelude.{◌≡◌};
+ghost use Rattle.std.specs.Prelude.{◌≡◌, ℕ};
 ghost use Rattle.blocks.specs.Octets.{xor_each};
 ghost use Rattle.blocks.specs.Fields.{field, number};
+
+use std::array;
 
 // The most octets of a message, in every call that takes one.
 pub const LONGEST: usize = 65_536;
@@ -10,67 +12,69 @@ pub const LONGEST: usize = 65_536;
 pub fn xor(a: [u8; 16], b: [u8; 16]) -> [u8; 16]
     ensures { result ≡ xor_each a b }
 {
-    let mut r = [0; 16];
-    for j in 0..16 {
-        r[j] = a[j] ^ b[j];
+    array::from_fn(|j| a[j] ^ b[j])
+}
+
+// A number of N octets, the least octet first.
+pub trait Number<const N: usize> {
+    // The number as such.
+    ghost value: { Self → ℕ };
+
+    // The number that the octets write.
+    fn number(octets: &[u8; N]) -> Self
+        ensures value { value result ≡ number octets.entry.now }
+        ensures undone { field N (value result) ≡ octets.entry.now };
+
+    // The octets that write the number.
+    fn field(self) -> [u8; N]
+        ensures value { result ≡ field N (value self) }
+        ensures undone { number result ≡ value self };
+}
+
+impl Number<2> for u16 {
+    ghost value = { λ n. n };
+
+    fn number(octets: &[u8; 2]) -> u16 {
+        u16::from_le_bytes(*octets)
     }
-    r
+
+    fn field(self) -> [u8; 2] {
+        u16::to_le_bytes(self)
+    }
 }
 
-// The number that two octets write.
-pub fn number16(octets: [u8; 2]) -> u16
-    ensures value { result ≡ number octets }
-    ensures undone { field 2 result ≡ octets }
-{
-    u16::from_le_bytes(octets)
+impl Number<4> for u32 {
+    ghost value = { λ n. n };
+
+    fn number(octets: &[u8; 4]) -> u32 {
+        u32::from_le_bytes(*octets)
+    }
+
+    fn field(self) -> [u8; 4] {
+        u32::to_le_bytes(self)
+    }
 }
 
-// The two octets that write a number.
-pub fn field16(n: u16) -> [u8; 2]
-    ensures value { result ≡ field 2 n }
-    ensures undone { number result ≡ n }
-{
-    u16::to_le_bytes(n)
+impl Number<8> for u64 {
+    ghost value = { λ n. n };
+
+    fn number(octets: &[u8; 8]) -> u64 {
+        u64::from_le_bytes(*octets)
+    }
+
+    fn field(self) -> [u8; 8] {
+        u64::to_le_bytes(self)
+    }
 }
 
-pub fn number32(octets: [u8; 4]) -> u32
-    ensures value { result ≡ number octets }
-    ensures undone { field 4 result ≡ octets }
-{
-    u32::from_le_bytes(octets)
-}
+impl Number<16> for u128 {
+    ghost value = { λ n. n };
 
-pub fn field32(n: u32) -> [u8; 4]
-    ensures value { result ≡ field 4 n }
-    ensures undone { number result ≡ n }
-{
-    u32::to_le_bytes(n)
-}
+    fn number(octets: &[u8; 16]) -> u128 {
+        u128::from_le_bytes(*octets)
+    }
 
-pub fn number64(octets: [u8; 8]) -> u64
-    ensures value { result ≡ number octets }
-    ensures undone { field 8 result ≡ octets }
-{
-    u64::from_le_bytes(octets)
-}
-
-pub fn field64(n: u64) -> [u8; 8]
-    ensures value { result ≡ field 8 n }
-    ensures undone { number result ≡ n }
-{
-    u64::to_le_bytes(n)
-}
-
-pub fn number128(octets: [u8; 16]) -> u128
-    ensures value { result ≡ number octets }
-    ensures undone { field 16 result ≡ octets }
-{
-    u128::from_le_bytes(octets)
-}
-
-pub fn field128(n: u128) -> [u8; 16]
-    ensures value { result ≡ field 16 n }
-    ensures undone { number result ≡ n }
-{
-    u128::to_le_bytes(n)
+    fn field(self) -> [u8; 16] {
+        u128::to_le_bytes(self)
+    }
 }

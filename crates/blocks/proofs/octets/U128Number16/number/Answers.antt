@@ -1,13 +1,13 @@
 use Rattle.std.proofs.Common.{◌≡◌, length, arith, rules}
 use Rattle.blocks.specs.Octets.{Octets, part}
 use Rattle.blocks.specs.Fields.{number}
-use Rattle.blocks.proofs.Numbers.{reads, reads-back}
-use Rattle.blocks.proofs.octets.number128.Goals as goal
+use Rattle.blocks.proofs.Numbers.{reads-back}
+use Rattle.blocks.proofs.octets.U128Number16.number.Goals as goal
 
-pub returns : goal.returns
-returns c =
-    let x = c.args.octets in
+pub returns-clause-undone : goal.returns-clause-undone
+returns-clause-undone c =
+    let x = c.args.octets.now in
     let long : length x ≡ 16 = search rules in
     let octet : Octets x = λ k. search rules in
     let sum : c.from_le_bytes.result ≡ number (part 0 16 x) = omega (arith, c.from_le_bytes.ensures) in
-    record { value = reads 16 _ x long octet sum; undone = reads-back 16 _ x long octet sum }
+    reads-back 16 _ x long octet sum
