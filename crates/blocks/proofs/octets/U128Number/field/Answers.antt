@@ -1,6 +1,6 @@
 use Rattle.std.proofs.Common.{◌^◌, ◌<◌, rules}
 use Rattle.blocks.proofs.Numbers.{writes, writes-back}
-use Rattle.blocks.proofs.octets.U128Number16.field.Goals as goal
+use Rattle.blocks.proofs.octets.U128Number.field.Goals as goal
 
 pub returns-clause-value : goal.returns-clause-value
 returns-clause-value c = let fits : c.args.self < 256 ^ 16 = search rules in writes 15 _ _ fits c.to_le_bytes.ensures

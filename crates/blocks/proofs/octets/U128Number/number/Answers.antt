@@ -2,7 +2,7 @@ use Rattle.std.proofs.Common.{◌≡◌, length, arith, rules}
 use Rattle.blocks.specs.Octets.{Octets, part}
 use Rattle.blocks.specs.Fields.{number}
 use Rattle.blocks.proofs.Numbers.{reads-back}
-use Rattle.blocks.proofs.octets.U128Number16.number.Goals as goal
+use Rattle.blocks.proofs.octets.U128Number.number.Goals as goal
 
 pub returns-clause-undone : goal.returns-clause-undone
 returns-clause-undone c =
