@@ -7,7 +7,7 @@ ghost use Rattle.rounds.specs.Kits.{kit_header, kit_key, kit_keys, kit_room, kit
 ghost use Rattle.rounds.specs.KitExact.{KitExact};
 
 use belt::transform::transform;
-use blocks::octets::field16;
+use blocks::octets::Number;
 use blocks::{Block, Refusal};
 use modes::scratch::Wipe;
 use modes::wrap::unwrap_within;
@@ -52,7 +52,7 @@ fn kit_in<B: Block>(
     ensures same { B.meaning block.new ≡ B.meaning block.old }
 {
     let n = unwrap_within(block, header, text, room(out.len()), scratch)?;
-    if n != 16 && n != 24 && n != 32 {
+    if !matches!(n, 16 | 24 | 32) {
         return Err(Refusal::KeyLength);
     }
     derive(&scratch[0..n], site, &mut out[0..3 * n]);
@@ -88,6 +88,6 @@ fn derive_one(key: &[u8], i: u8, site: u16, out: &mut [u8])
 fn key_header(i: u8, site: u16) -> [u8; 16]
     ensures { result ≡ kit_header i site }
 {
-    let [low, high] = field16(site);
+    let [low, high] = site.field();
     [i, low, high, 0, 0, 0, 0, 0, 0, 0, 0, 0, 0, 0, 0, 0]
 }

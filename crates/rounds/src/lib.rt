@@ -2,5 +2,4 @@
 #![tactic(auto)]
 
 pub mod kit;
-mod same;
 pub mod tag;

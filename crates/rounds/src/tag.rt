@@ -4,8 +4,7 @@ ghost use Rattle.blocks.specs.Written.{written};
 ghost use Rattle.rounds.specs.Tags.{tag_head, issued, issue_answer};
 ghost use Rattle.rounds.specs.Checked.{tag_parts, parts_answer, tag_answer, TagExact};
 
-use crate::same::same;
-use blocks::octets::{field16, field32, number16, number32};
+use blocks::octets::Number;
 use blocks::{Block, Refusal};
 use modes::checksum::checksum;
 
@@ -51,9 +50,9 @@ fn head(site: u16, checkpoint: u16, serial: u32) -> [u8; 16]
     ensures { result ≡ tag_head site checkpoint serial }
 {
     let [l0, l1, l2, l3] = LETTERS;
-    let [s0, s1] = field16(site);
-    let [c0, c1] = field16(checkpoint);
-    let [n0, n1, n2, n3] = field32(serial);
+    let [s0, s1] = site.field();
+    let [c0, c1] = checkpoint.field();
+    let [n0, n1, n2, n3] = serial.field();
     [l0, l1, l2, l3, s0, s1, c0, c1, n0, n1, n2, n3, 0, 0, 0, 0]
 }
 
@@ -86,7 +85,7 @@ pub fn check<B: Block>(block: &mut B, site: u16, text: &[u8]) -> Result<Tag, Ref
         return Err(Refusal::TagLength);
     };
     let sum = checksum(block, &text[0..16])?;
-    judge(site, same(&text[16..24], &sum), parts)
+    judge(site, text[16..24] == sum[..], parts)
 }
 
 // The fields of a text of 24 octets.
@@ -110,20 +109,14 @@ fn take_apart(text: &[u8]) -> Option<Parts>
         z1,
         z2,
         z3,
-        rest @ ..,
-    ] = text
-    else {
-        return None;
-    };
-    if rest.len() != 8 {
-        return None;
-    }
+        ..
+    ] = text.as_array::<SIZE>()?;
     Some(Parts {
         letters: [*l0, *l1, *l2, *l3],
-        site: number16([*s0, *s1]),
-        checkpoint: number16([*c0, *c1]),
-        serial: number32([*n0, *n1, *n2, *n3]),
-        reserved: number32([*z0, *z1, *z2, *z3]),
+        site: u16::number(&[*s0, *s1]),
+        checkpoint: u16::number(&[*c0, *c1]),
+        serial: u32::number(&[*n0, *n1, *n2, *n3]),
+        reserved: u32::number(&[*z0, *z1, *z2, *z3]),
     })
 }
 
@@ -131,7 +124,7 @@ fn take_apart(text: &[u8]) -> Option<Parts>
 fn judge(site: u16, summed: bool, parts: Parts) -> Result<Tag, Refusal>
     ensures { result ≡ parts_answer site summed parts }
 {
-    if !same(&parts.letters, &LETTERS) {
+    if parts.letters != LETTERS {
         return Err(Refusal::TagLetters);
     }
     if !summed {

@@ -33,8 +33,8 @@ returns g c =
     let l : length t ≡ 24 = eqb-true (length t) 24 p.0 in
     let s : c.in_ok-sum.sum ≡ checksum f (take 16 t)
     = sum-given f (take 16 t) _ (omega (arith, length-take-le 16 t (omega arith))) c.in_ok-sum.ensures.answer in
-    let b : c.same.result ≡ bytes_eq (drop 16 t) (checksum f (take 16 t))
-    = c.same.ensures ∙ ap₂ bytes_eq (take_all 8 (drop 16 t) (omega (arith, length-drop 16 t))) s in
+    let b : c.eq.result ≡ bytes_eq (drop 16 t) (checksum f (take 16 t))
+    = c.eq.ensures ∙ ap₂ bytes_eq (take_all 8 (drop 16 t) (omega (arith, length-drop 16 t))) s in
     let e : c.judge.result ≡ tag_answer f c.args.site t
     = c.judge.ensures ∙ ap₂ (parts_answer c.args.site) b p.1 ∙ sym (cond-true (eqb (length t) 24) _ _ p.0) in
     record {
