@@ -64,7 +64,7 @@ pub enum Refusal {
 }
 
 impl Refusal {
-    // The number in answers.
+    // The number in answers. A method and no `From`: `u8::from(refusal)` would not say what the octet is.
     pub fn number(self) -> u8
         ensures number { result ≡ refusal_number self }
         ensures apart { NumbersApart }
@@ -73,7 +73,7 @@ impl Refusal {
     }
 }
 
-// The number of an answer: zero where the call was accepted.
+// The number of an answer, zero where the call was accepted: C takes a number.
 pub fn answer_number<T>(answer: &Result<T, Refusal>) -> u8
     ensures { result ≡ answer_number answer.now }
 {

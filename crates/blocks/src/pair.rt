@@ -20,6 +20,7 @@ impl<A: Block, B: Block> PairBlock<A, B> {
     }
 }
 
+// Each way is written out: the way back goes through the parts in the other order.
 impl<A: Block, B: Block> Block for PairBlock<A, B> {
     ghost meaning = { λ s. and_then (A.meaning s.first) (B.meaning s.second) };
 
