@@ -1,10 +1,10 @@
 -- The tables of the code: each is the table H with every entry rotated, and the sum of four entries is `g`.
-use Rattle.std.proofs.Common.{◌≡◌, ℕ, zero, suc, ◌+◌, ◌-◌, ◌*◌, ◌/◌, ◌%◌, ◌^◌, ◌<◌, List, [], ◌∷◌, map, get_or, sym, refl, ap, ◌∙◌, ap₂, arith}
+use Rattle.std.proofs.Common.{◌≡◌, ℕ, zero, suc, ◌+◌, ◌-◌, ◌*◌, ◌/◌, ◌%◌, ◌^◌, ◌<◌, ◌≤◌, List, [], ◌∷◌, map, get_or, sym, refl, ap, ◌∙◌, ap₂, inl, inr, arith}
 use Rattle.std.proofs.lemmas.Nat.{mod-mul-add, shr_high}
 use Rattle.blocks.specs.Fields.{number, field}
 use Rattle.belt.specs.Words.{rotated, h, g}
 use Rattle.belt.specs.Table.{table}
-use Rattle.belt.specs.Wordwise.{h-octet}
+use Rattle.belt.specs.Wordwise.{Turn, h-octet}
 
 get_or-each : (f : ℕ → ℕ) → f 0 ≡ 0 → (xs : List ℕ) (k : ℕ) → get_or (map f xs) k 0 ≡ f (get_or xs k 0)
 get_or-each f e [] k = sym e
@@ -12,9 +12,20 @@ get_or-each f e (x ∷ xs) zero = refl
 get_or-each f e (x ∷ xs) (suc k) = get_or-each f e xs k
 
 -- The table with every entry rotated by r, at x.
-pub entry : (r : ℕ) → rotated r 0 ≡ 0 → (x : ℕ) → get_or (map (λ y. rotated r y) table) x 0 ≡ rotated r (h x)
+abbrev pub turned : ℕ → List ℕ
+turned r = map (λ y. rotated r y) table
+
+turned_at : (r : ℕ) → rotated r 0 ≡ 0 → (x : ℕ) → get_or (turned r) x 0 ≡ rotated r (h x)
 unfolding h
-entry r e x = get_or-each (λ y. rotated r y) e table x
+turned_at r e x = get_or-each (λ y. rotated r y) e table x
+
+-- The four tables, at x.
+pub entry : (t x : ℕ) → t < 4 → get_or (get_or (turned 5 ∷ turned 13 ∷ turned 21 ∷ turned 29 ∷ []) t []) x 0 ≡ rotated (5 + 8 * t) (h x)
+entry zero x b = turned_at 5 refl x
+entry (suc zero) x b = turned_at 13 refl x
+entry (suc (suc zero)) x b = turned_at 21 refl x
+entry (suc (suc (suc zero))) x b = turned_at 29 refl x
+entry (suc (suc (suc (suc t)))) x b = absurd (omega arith)
 
 -- A word of two parts, rotated: the parts change places.
 parts : (r t hi lo : ℕ) → t * 2 ^ r ≡ hi * 2 ^ 32 + lo * 2 ^ r → lo * 2 ^ r < 2 ^ 32
@@ -36,6 +47,14 @@ module _ (x : ℕ) (b : x < 256) where
   pub octet-29 : rotated 29 x ≡ x % 8 * 2 ^ 29 + x / 8
   octet-29 = parts 29 x (x / 8) (x % 8) (omega arith) (omega arith) (omega arith) (omega arith)
 
+-- No octet is rotated to more than the octet of all bits is.
+pub most : (t y : ℕ) → t < 4 → y < 256 → rotated (5 + 8 * t) y ≤ rotated (5 + 8 * t) 255
+most zero y b h = rw (octet-5 y h) (omega arith)
+most (suc zero) y b h = rw (octet-13 y h) (omega arith)
+most (suc (suc zero)) y b h = rw (octet-21 y h) (omega arith)
+most (suc (suc (suc zero))) y b h = rw (octet-29 y h) (omega arith)
+most (suc (suc (suc (suc t)))) y b h = absurd (omega arith)
+
 abbrev word : ℕ → ℕ → ℕ → ℕ → ℕ
 word p q r s = number (p ∷ q ∷ r ∷ s ∷ [])
 
@@ -55,15 +74,38 @@ module _ (p q r s : ℕ) (hp : p < 256) (hq : q < 256) (hr : r < 256) (hs : s < 
       rw (octet-21 p hp, octet-29 q hq, octet-5 r hr, octet-13 s hs)
       (rw (parts 21 (word p q r s) (q / 8 + r * 32 + s * 8192) (p + q % 8 * 256) (omega arith) (omega arith) (omega arith) (omega arith)) (omega arith))
 
--- Four entries at the octets of u, rotated by w x y z, add up to `g r`, if they do so at any four octets.
-pub sum : (r w x y z u : ℕ) (os : List ℕ) (e₀ e₁ e₂ e₃ : ℕ)
-    → ((p q s t : ℕ) → p < 256 → q < 256 → s < 256 → t < 256 → rotated w p + rotated x q + rotated y s + rotated z t ≡ rotated r (word p q s t))
-    → os ≡ field 4 u
-    → e₀ ≡ rotated w (h (get_or os 0 0)) → e₁ ≡ rotated x (h (get_or os 1 0)) → e₂ ≡ rotated y (h (get_or os 2 0)) → e₃ ≡ rotated z (h (get_or os 3 0))
+-- The rotations of the four octets of a word that is rotated by r.
+abbrev pub turns : ℕ → ℕ → ℕ
+turns r k = 5 + 8 * ((r / 8 + k) % 4)
+
+whole : (r p q s t : ℕ) → Turn r → p < 256 → q < 256 → s < 256 → t < 256
+    → rotated (5 + 8 * (r / 8)) p + rotated (turns r 1) q + rotated (turns r 2) s + rotated (turns r 3) t ≡ rotated r (word p q s t)
+whole r p q s t (inl e) hp hq hs ht = rw e (word-5 p q s t hp hq hs ht)
+whole r p q s t (inr (inl e)) hp hq hs ht = rw e (word-13 p q s t hp hq hs ht)
+whole r p q s t (inr (inr e)) hp hq hs ht = rw e (word-21 p q s t hp hq hs ht)
+
+-- The four together fill a word.
+filled : (r : ℕ) → Turn r
+    → rotated (5 + 8 * (r / 8)) 255 + rotated (turns r 1) 255 + rotated (turns r 2) 255 + rotated (turns r 3) 255 ≡ 4294967295
+filled r (inl e) = rw e
+filled r (inr (inl e)) = rw e
+filled r (inr (inr e)) = rw e
+
+below : (b₀ b₁ b₂ b₃ e₀ e₁ e₂ e₃ n : ℕ) → b₀ + b₁ + b₂ + b₃ ≡ n → e₀ ≤ b₀ → e₁ ≤ b₁ → e₂ ≤ b₂ → e₃ ≤ b₃ → e₀ + e₁ + e₂ + e₃ ≤ n
+below b₀ b₁ b₂ b₃ e₀ e₁ e₂ e₃ n s l₀ l₁ l₂ l₃ = omega arith
+
+pub room : (r : ℕ) → Turn r → (e₀ e₁ e₂ e₃ : ℕ)
+    → e₀ ≤ rotated (5 + 8 * (r / 8)) 255 → e₁ ≤ rotated (turns r 1) 255 → e₂ ≤ rotated (turns r 2) 255 → e₃ ≤ rotated (turns r 3) 255
+    → e₀ + e₁ + e₂ + e₃ ≤ 4294967295
+room r turn e₀ e₁ e₂ e₃ a b c d = below _ _ _ _ e₀ e₁ e₂ e₃ 4294967295 (filled r turn) a b c d
+
+-- Four entries at the octets of u add up to `g r`.
+pub sum : (r u : ℕ) (os : List ℕ) (e₀ e₁ e₂ e₃ : ℕ) → Turn r → os ≡ field 4 u
+    → e₀ ≡ rotated (5 + 8 * (r / 8)) (h (get_or os 0 0)) → e₁ ≡ rotated (turns r 1) (h (get_or os 1 0)) → e₂ ≡ rotated (turns r 2) (h (get_or os 2 0)) → e₃ ≡ rotated (turns r 3) (h (get_or os 3 0))
     → e₀ + e₁ + e₂ + e₃ ≡ g r u
 unfolding g
-sum r w x y z u os e₀ e₁ e₂ e₃ law eo a b c d =
+sum r u os e₀ e₁ e₂ e₃ turn eo a b c d =
     ap₂ ◌+◌ (ap₂ ◌+◌ (ap₂ ◌+◌ a b) c) d
-    ∙ ap (λ l. rotated w (h (get_or l 0 0)) + rotated x (h (get_or l 1 0)) + rotated y (h (get_or l 2 0)) + rotated z (h (get_or l 3 0))) eo
-    ∙ law (h (get_or (field 4 u) 0 0)) (h (get_or (field 4 u) 1 0)) (h (get_or (field 4 u) 2 0)) (h (get_or (field 4 u) 3 0))
+    ∙ ap (λ l. rotated (5 + 8 * (r / 8)) (h (get_or l 0 0)) + rotated (turns r 1) (h (get_or l 1 0)) + rotated (turns r 2) (h (get_or l 2 0)) + rotated (turns r 3) (h (get_or l 3 0))) eo
+    ∙ whole r (h (get_or (field 4 u) 0 0)) (h (get_or (field 4 u) 1 0)) (h (get_or (field 4 u) 2 0)) (h (get_or (field 4 u) 3 0)) turn
     (h-octet _) (h-octet _) (h-octet _) (h-octet _)

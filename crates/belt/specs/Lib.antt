@@ -9,3 +9,4 @@ pub mod Hash
 pub mod Transformation
 pub mod Undoing
 pub mod Wordwise
+pub mod Ways

@@ -35,16 +35,20 @@ small_at [] t k = lit< tt
 small_at (x ∷ xs) t zero = ltb-true x 256 (and_parts (nat_lt x 256) (small xs) t).0
 small_at (x ∷ xs) t (suc k) = small_at xs (and_parts (nat_lt x 256) (small xs) t).1 k
 
+-- The rotations that the rounds use.
+abbrev pub Turn : ℕ → Type 0
+Turn r = (r ≡ 5) ⊎ ((r ≡ 13) ⊎ (r ≡ 21))
+
 pub h-octet : (x : ℕ) → h x < 256
 unfolding h
 h-octet x = small_at table refl x
 
-rotated-word : (r t : ℕ) → (r ≡ 5) ⊎ ((r ≡ 13) ⊎ (r ≡ 21)) → t < 2 ^ 32 → rotated r t < 2 ^ 32
+rotated-word : (r t : ℕ) → Turn r → t < 2 ^ 32 → rotated r t < 2 ^ 32
 rotated-word r t (inl e) b = rw e (omega arith)
 rotated-word r t (inr (inl e)) b = rw e (omega arith)
 rotated-word r t (inr (inr e)) b = rw e (omega arith)
 
-g-word : (r u : ℕ) → (r ≡ 5) ⊎ ((r ≡ 13) ⊎ (r ≡ 21)) → g r u < 2 ^ 32
+g-word : (r u : ℕ) → Turn r → g r u < 2 ^ 32
 unfolding g
 g-word r u which =
     rotated-word r (number (map h (field 4 u))) which

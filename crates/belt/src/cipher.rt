@@ -1,16 +1,20 @@
 // The BelT block, one block and two blocks at a time.
-ghost use Rattle.std.specs.Prelude.{◌≡◌, ℕ, ◌+◌, ◌-◌, ◌*◌, ◌≤◌, slice_index};
-ghost use Rattle.belt.specs.Words.{rotated, h, g};
-ghost use Rattle.belt.specs.Cipher.{round_key, steps, swaps_forward, swaps_backward, round_forward, round_backward, loaded, stored, encrypt, decrypt, belt};
+ghost use Rattle.std.specs.Prelude.{◌≡◌, ℕ, ◌+◌, ◌-◌, ◌*◌, ◌<◌, ◌≤◌, List, [], ◌∷◌, length, slice_index};
+ghost use Rattle.belt.specs.Words.{word_at, rotated, h, g};
+ghost use Rattle.belt.specs.Wordwise.{Turn};
+ghost use Rattle.belt.specs.Cipher.{steps, swaps_forward, swaps_backward, round_forward, round_backward, loaded, stored, encrypt, decrypt, belt};
 ghost use Rattle.belt.specs.Keys.{key_words, block_answer};
 ghost use Rattle.belt.specs.Inverse.{Inverse};
 ghost use Rattle.belt.specs.Cases.{BlockCases};
 ghost use Rattle.belt.specs.Undoing.{belt-reversible};
+ghost use Rattle.belt.specs.Ways.{IsRound, IsWay, round-one-forward, round-one-backward, encrypt-all, decrypt-all};
+ghost use Rattle.belt.specs.declared.cipher.Quad.{Quad};
 
 use crate::keys::expand;
-use crate::tables::{ROTATED_5, ROTATED_13, ROTATED_21, ROTATED_29};
-use blocks::octets::{field32, number32};
+use crate::tables::ROTATED;
+use blocks::octets::Number;
 use blocks::{Block, Refusal};
+use std::array;
 
 // The four words of a block.
 #[derive(Clone, Copy)]
@@ -21,58 +25,31 @@ struct Quad {
     d: u32,
 }
 
-fn rotated_5(x: u8) -> u32
-    ensures entry { result ≡ rotated 5 (h x) }
-    ensures bound { result ≤ 8160 }
+// The table's entry at x, rotated left by 5, 13, 21 or 29 bits.
+fn rotated(place: usize, x: u8) -> u32
+    requires { place < 4 }
+    ensures entry { result ≡ rotated (5 + 8 * place) (h x) }
+    ensures bound { result ≤ rotated (5 + 8 * place) 255 }
 {
-    ROTATED_5[x as usize]
+    ROTATED[place][x as usize]
 }
 
-fn rotated_13(x: u8) -> u32
-    ensures entry { result ≡ rotated 13 (h x) }
-    ensures bound { result ≤ 2088960 }
+// The table's entry at each octet, then a rotation by 5, 13 or 21 bits: the four entries have no bit in common, so their sum has no carry.
+fn g<const R: usize>(u: u32) -> u32
+    requires { Turn R }
+    ensures { result ≡ g R u }
 {
-    ROTATED_13[x as usize]
+    let first = R / 8;
+    let [o0, o1, o2, o3] = u.field();
+    rotated(first, o0)
+        + rotated((first + 1) % 4, o1)
+        + rotated((first + 2) % 4, o2)
+        + rotated((first + 3) % 4, o3)
 }
 
-fn rotated_21(x: u8) -> u32
-    ensures entry { result ≡ rotated 21 (h x) }
-    ensures bound { result ≤ 534773760 }
-{
-    ROTATED_21[x as usize]
-}
-
-fn rotated_29(x: u8) -> u32
-    ensures entry { result ≡ rotated 29 (h x) }
-    ensures bound { result ≤ 3758096415 }
-{
-    ROTATED_29[x as usize]
-}
-
-// The table's entry at each octet, then a rotation: the four entries have no bit in common, so their sum has no carry.
-fn g5(u: u32) -> u32
-    ensures { result ≡ g 5 u }
-{
-    let [o0, o1, o2, o3] = field32(u);
-    rotated_5(o0) + rotated_13(o1) + rotated_21(o2) + rotated_29(o3)
-}
-
-fn g13(u: u32) -> u32
-    ensures { result ≡ g 13 u }
-{
-    let [o0, o1, o2, o3] = field32(u);
-    rotated_13(o0) + rotated_21(o1) + rotated_29(o2) + rotated_5(o3)
-}
-
-fn g21(u: u32) -> u32
-    ensures { result ≡ g 21 u }
-{
-    let [o0, o1, o2, o3] = field32(u);
-    rotated_21(o0) + rotated_29(o1) + rotated_5(o2) + rotated_13(o3)
-}
-
-// The nine steps of round i. LANE only tells the copies apart, so that each call is compiled in place.
-fn nine_steps<const LANE: u8>(i: u32, k: [u32; 7], s: Quad) -> Quad
+// The nine steps of round i.
+#[inline(always)]
+fn nine_steps(i: u32, k: [u32; 7], s: Quad) -> Quad
     ensures { result ≡ steps i (slice_index k 0) (slice_index k 1) (slice_index k 2) (slice_index k 3) (slice_index k 4) (slice_index k 5) (slice_index k 6) s }
 {
     let Quad {
@@ -81,61 +58,132 @@ fn nine_steps<const LANE: u8>(i: u32, k: [u32; 7], s: Quad) -> Quad
         mut c,
         mut d,
     } = s;
-    b ^= g5(a.wrapping_add(k[0]));
-    c ^= g21(d.wrapping_add(k[1]));
-    a = a.wrapping_sub(g13(b.wrapping_add(k[2])));
-    let e = g21(b.wrapping_add(c).wrapping_add(k[3])) ^ i;
+    b ^= g::<5>(a.wrapping_add(k[0]));
+    c ^= g::<21>(d.wrapping_add(k[1]));
+    a = a.wrapping_sub(g::<13>(b.wrapping_add(k[2])));
+    let e = g::<21>(b.wrapping_add(c).wrapping_add(k[3])) ^ i;
     b = b.wrapping_add(e);
     c = c.wrapping_sub(e);
-    d = d.wrapping_add(g13(c.wrapping_add(k[4])));
-    b ^= g21(a.wrapping_add(k[5]));
-    c ^= g5(d.wrapping_add(k[6]));
+    d = d.wrapping_add(g::<13>(c.wrapping_add(k[4])));
+    b ^= g::<21>(a.wrapping_add(k[5]));
+    c ^= g::<5>(d.wrapping_add(k[6]));
     Quad { a, b, c, d }
+}
+
+// The word that four octets write, from a place on.
+fn word(octets: &[u8], at: usize) -> u32
+    requires { at + 4 ≤ length octets.now }
+    ensures { result ≡ word_at octets.now at }
+{
+    u32::number(&[octets[at], octets[at + 1], octets[at + 2], octets[at + 3]])
 }
 
 fn load(x: [u8; 16]) -> Quad
     ensures { result ≡ loaded x }
 {
-    Quad {
-        a: number32([x[0], x[1], x[2], x[3]]),
-        b: number32([x[4], x[5], x[6], x[7]]),
-        c: number32([x[8], x[9], x[10], x[11]]),
-        d: number32([x[12], x[13], x[14], x[15]]),
-    }
+    let words: [u32; 4] = array::from_fn(|i| word(&x, 4 * i));
+    let [a, b, c, d] = words;
+    Quad { a, b, c, d }
 }
 
 fn store(s: Quad) -> [u8; 16]
     ensures { result ≡ stored s }
 {
-    let [a0, a1, a2, a3] = field32(s.a);
-    let [b0, b1, b2, b3] = field32(s.b);
-    let [c0, c1, c2, c3] = field32(s.c);
-    let [d0, d1, d2, d3] = field32(s.d);
-    [
-        a0, a1, a2, a3, b0, b1, b2, b3, c0, c1, c2, c3, d0, d1, d2, d3,
-    ]
+    let fields = [s.a.field(), s.b.field(), s.c.field(), s.d.field()];
+    array::from_fn(|i| fields[i / 4][i % 4])
 }
 
-// The order of the words after a round forward, and after a round backward.
-fn swap_forward(s: Quad) -> Quad
-    ensures { result ≡ swaps_forward s }
-{
-    Quad {
-        a: s.b,
-        b: s.d,
-        c: s.a,
-        d: s.c,
+// A way through the rounds.
+trait Way {
+    // What the way makes of a block under a key, what a round makes of the words, and their order after it.
+    ghost image: { List ℕ → List ℕ → List ℕ };
+
+    ghost round: { List ℕ → ℕ → Quad → Quad };
+
+    ghost swaps: { Quad → Quad };
+
+    // The eight rounds in their order, counted from 0, and the place of key j of a round.
+    ghost ROUNDS: { List ℕ };
+
+    ghost place: { ℕ → ℕ → ℕ };
+
+    const ROUNDS: [u8; 8];
+
+    fn place(i: u8, j: usize) -> usize
+        requires { j < 7 }
+        ensures { result ≡ place i j };
+
+    fn swap(s: Quad) -> Quad
+        ensures { result ≡ swaps s };
+
+    ghost one: { IsRound round swaps place };
+
+    ghost all: { IsWay image round swaps ROUNDS };
+}
+
+struct Forward;
+
+struct Backward;
+
+impl Way for Forward {
+    ghost image = { encrypt };
+
+    ghost round = { round_forward };
+
+    ghost swaps = { swaps_forward };
+
+    ghost ROUNDS = { 0 ∷ 1 ∷ 2 ∷ 3 ∷ 4 ∷ 5 ∷ 6 ∷ 7 ∷ [] };
+
+    ghost place = { λ i j. 7 * i + j };
+
+    ghost one = { round-one-forward };
+
+    ghost all = { encrypt-all };
+
+    const ROUNDS: [u8; 8] = [0, 1, 2, 3, 4, 5, 6, 7];
+
+    fn place(i: u8, j: usize) -> usize {
+        7 * i as usize + j
+    }
+
+    fn swap(s: Quad) -> Quad {
+        Quad {
+            a: s.b,
+            b: s.d,
+            c: s.a,
+            d: s.c,
+        }
     }
 }
 
-fn swap_backward(s: Quad) -> Quad
-    ensures { result ≡ swaps_backward s }
-{
-    Quad {
-        a: s.c,
-        b: s.a,
-        c: s.d,
-        d: s.b,
+impl Way for Backward {
+    ghost image = { decrypt };
+
+    ghost round = { round_backward };
+
+    ghost swaps = { swaps_backward };
+
+    ghost ROUNDS = { 7 ∷ 6 ∷ 5 ∷ 4 ∷ 3 ∷ 2 ∷ 1 ∷ 0 ∷ [] };
+
+    ghost place = { λ i j. 7 * i + (6 - j) };
+
+    ghost one = { round-one-backward };
+
+    ghost all = { decrypt-all };
+
+    const ROUNDS: [u8; 8] = [7, 6, 5, 4, 3, 2, 1, 0];
+
+    fn place(i: u8, j: usize) -> usize {
+        7 * i as usize + (6 - j)
+    }
+
+    fn swap(s: Quad) -> Quad {
+        Quad {
+            a: s.c,
+            b: s.a,
+            c: s.d,
+            d: s.b,
+        }
     }
 }
 
@@ -157,58 +205,55 @@ impl BeltBlock {
     pub(crate) fn with_expanded(x: [u8; 32]) -> BeltBlock
         ensures { result.key ≡ key_words x }
     {
-        BeltBlock {
-            key: [
-                number32([x[0], x[1], x[2], x[3]]),
-                number32([x[4], x[5], x[6], x[7]]),
-                number32([x[8], x[9], x[10], x[11]]),
-                number32([x[12], x[13], x[14], x[15]]),
-                number32([x[16], x[17], x[18], x[19]]),
-                number32([x[20], x[21], x[22], x[23]]),
-                number32([x[24], x[25], x[26], x[27]]),
-                number32([x[28], x[29], x[30], x[31]]),
-            ],
+        let key = array::from_fn(|i| word(&x, 4 * i));
+        BeltBlock { key }
+    }
+
+    // Round i of a way, counted from 0.
+    #[inline(always)]
+    fn round<W: Way>(&self, i: u8, s: Quad) -> Quad
+        ensures { result ≡ W.round self.now.key (i + 1) s }
+    {
+        let keys = array::from_fn(|j| self.key[W::place(i, j) % 8]);
+        W::swap(nine_steps(i as u32 + 1, keys, s))
+    }
+
+    // One block, a whole way.
+    fn pass<W: Way>(&self, x: [u8; 16]) -> [u8; 16]
+        ensures { result ≡ W.image self.now.key x }
+    {
+        let mut s = load(x);
+        for i in W::ROUNDS {
+            s = self.round::<W>(i, s);
         }
+        store(W::swap(s))
     }
 
-    // Round key i, from 1 on.
-    fn round_key(&self, i: u32) -> u32
-        requires { 1 ≤ i }
-        ensures { result ≡ round_key self.now.key i }
+    // Round i of two blocks that do not wait for each other.
+    #[inline(always)]
+    fn round_two<W: Way>(&self, i: u8, s: (Quad, Quad)) -> (Quad, Quad)
+        ensures first { result.0 ≡ W.round self.now.key (i + 1) s.0 }
+        ensures second { result.1 ≡ W.round self.now.key (i + 1) s.1 }
     {
-        self.key[((i - 1) % 8) as usize]
+        (self.round::<W>(i, s.0), self.round::<W>(i, s.1))
     }
 
-    fn round_forward<const LANE: u8>(&self, i: u32, s: Quad) -> Quad
-        requires { (1 ≤ i) × (i ≤ 8) }
-        ensures { result ≡ round_forward self.now.key i s }
+    // Two blocks. The rounds are written out, each with its keys at fixed places: a loop takes 1.16 times as long.
+    fn pass_two<W: Way>(&self, x: [u8; 16], y: [u8; 16]) -> ([u8; 16], [u8; 16])
+        ensures first { result.0 ≡ W.image self.now.key x }
+        ensures second { result.1 ≡ W.image self.now.key y }
     {
-        let k = [
-            self.round_key(7 * i - 6),
-            self.round_key(7 * i - 5),
-            self.round_key(7 * i - 4),
-            self.round_key(7 * i - 3),
-            self.round_key(7 * i - 2),
-            self.round_key(7 * i - 1),
-            self.round_key(7 * i),
-        ];
-        swap_forward(nine_steps::<LANE>(i, k, s))
-    }
-
-    fn round_backward<const LANE: u8>(&self, i: u32, s: Quad) -> Quad
-        requires { (1 ≤ i) × (i ≤ 8) }
-        ensures { result ≡ round_backward self.now.key i s }
-    {
-        let k = [
-            self.round_key(7 * i),
-            self.round_key(7 * i - 1),
-            self.round_key(7 * i - 2),
-            self.round_key(7 * i - 3),
-            self.round_key(7 * i - 4),
-            self.round_key(7 * i - 5),
-            self.round_key(7 * i - 6),
-        ];
-        swap_backward(nine_steps::<LANE>(i, k, s))
+        let rounds = W::ROUNDS;
+        let s = (load(x), load(y));
+        let s = self.round_two::<W>(rounds[0], s);
+        let s = self.round_two::<W>(rounds[1], s);
+        let s = self.round_two::<W>(rounds[2], s);
+        let s = self.round_two::<W>(rounds[3], s);
+        let s = self.round_two::<W>(rounds[4], s);
+        let s = self.round_two::<W>(rounds[5], s);
+        let s = self.round_two::<W>(rounds[6], s);
+        let s = self.round_two::<W>(rounds[7], s);
+        (store(W::swap(s.0)), store(W::swap(s.1)))
     }
 }
 
@@ -218,64 +263,19 @@ impl Block for BeltBlock {
     ghost reversible = { λ s. belt-reversible s.key };
 
     fn forward(&mut self, p: [u8; 16]) -> [u8; 16] {
-        let mut s = load(p);
-        for i in 0..8 {
-            s = self.round_forward::<0>(i + 1, s);
-        }
-        store(swap_forward(s))
+        self.pass::<Forward>(p)
     }
 
     fn backward(&mut self, c: [u8; 16]) -> [u8; 16] {
-        let mut s = load(c);
-        for i in (0..8).rev() {
-            s = self.round_backward::<1>(i + 1, s);
-        }
-        store(swap_backward(s))
+        self.pass::<Backward>(c)
     }
 
-    // The two chains of rounds do not wait for each other. The rounds are written out, so that each has its keys at fixed places.
     fn forward_two(&mut self, p: [u8; 16], q: [u8; 16]) -> ([u8; 16], [u8; 16]) {
-        let s = load(p);
-        let t = load(q);
-        let s = self.round_forward::<2>(1, s);
-        let t = self.round_forward::<3>(1, t);
-        let s = self.round_forward::<4>(2, s);
-        let t = self.round_forward::<5>(2, t);
-        let s = self.round_forward::<6>(3, s);
-        let t = self.round_forward::<7>(3, t);
-        let s = self.round_forward::<8>(4, s);
-        let t = self.round_forward::<9>(4, t);
-        let s = self.round_forward::<10>(5, s);
-        let t = self.round_forward::<11>(5, t);
-        let s = self.round_forward::<12>(6, s);
-        let t = self.round_forward::<13>(6, t);
-        let s = self.round_forward::<14>(7, s);
-        let t = self.round_forward::<15>(7, t);
-        let s = self.round_forward::<16>(8, s);
-        let t = self.round_forward::<17>(8, t);
-        (store(swap_forward(s)), store(swap_forward(t)))
+        self.pass_two::<Forward>(p, q)
     }
 
     fn backward_two(&mut self, c: [u8; 16], d: [u8; 16]) -> ([u8; 16], [u8; 16]) {
-        let s = load(c);
-        let t = load(d);
-        let s = self.round_backward::<18>(8, s);
-        let t = self.round_backward::<19>(8, t);
-        let s = self.round_backward::<20>(7, s);
-        let t = self.round_backward::<21>(7, t);
-        let s = self.round_backward::<22>(6, s);
-        let t = self.round_backward::<23>(6, t);
-        let s = self.round_backward::<24>(5, s);
-        let t = self.round_backward::<25>(5, t);
-        let s = self.round_backward::<26>(4, s);
-        let t = self.round_backward::<27>(4, t);
-        let s = self.round_backward::<28>(3, s);
-        let t = self.round_backward::<29>(3, t);
-        let s = self.round_backward::<30>(2, s);
-        let t = self.round_backward::<31>(2, t);
-        let s = self.round_backward::<32>(1, s);
-        let t = self.round_backward::<33>(1, t);
-        (store(swap_backward(s)), store(swap_backward(t)))
+        self.pass_two::<Backward>(c, d)
     }
 }
 

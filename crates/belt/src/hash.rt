@@ -1,30 +1,23 @@
 // The hash of a message, by the BelT block alone.
 ghost use Rattle.std.specs.Prelude.{◌≡◌, ℕ, ◌+◌, ◌*◌, ◌<◌, ◌≤◌, ◌++◌, length, take, drop};
-ghost use Rattle.belt.specs.Compression.{fed, σ₁, σ₂};
+ghost use Rattle.belt.specs.Compression.{sixteen_at, fed, σ₁, σ₂};
 ghost use Rattle.blocks.specs.Octets.{longest};
 ghost use Rattle.belt.specs.Hash.{padded, start, absorbed, finished, hash_answer};
 
 use crate::BeltBlock;
 use crate::keys::joined;
-use blocks::octets::{LONGEST, field128, xor};
+use blocks::octets::{LONGEST, Number, xor};
 use blocks::{Block, Refusal};
 
 // The first 32 entries of the substitution table.
 const START: [u8; 32] =
     *b"\xB1\x94\xBA\xC8\x0A\x08\xF5\x3B\x36\x6D\x00\x8E\x58\x4A\x5D\xE4\x85\x04\xFA\x9D\x1B\xB6\xC7\xAC\x25\x2E\x72\xC2\x02\xFD\xCE\x0D";
 
-// What the compression of 64 octets gives.
+// What the compression of 64 octets gives, and what the hash keeps from block to block.
 #[derive(Clone, Copy)]
-pub(crate) struct Compressed {
+pub(crate) struct Running {
     pub(crate) mix: [u8; 16],
     pub(crate) state: [u8; 32],
-}
-
-// What the hash keeps from block to block.
-#[derive(Clone, Copy)]
-struct Running {
-    mix: [u8; 16],
-    state: [u8; 32],
 }
 
 // The image of p under a key of 32 octets, mixed with p again.
@@ -35,38 +28,36 @@ fn fed_forward(key: [u8; 32], p: [u8; 16]) -> [u8; 16]
     xor(block.forward(p), p)
 }
 
-// Sixteen octets of x from a place on.
-fn part(x: [u8; 32], at: usize) -> [u8; 16]
-    requires { at + 16 ≤ 32 }
-    ensures { result ≡ take 16 (drop at x) }
+// The two sixteens of 32 octets.
+fn halves(x: [u8; 32]) -> ([u8; 16], [u8; 16])
+    ensures first { result.0 ≡ sixteen_at 0 x }
+    ensures second { result.1 ≡ sixteen_at 16 x }
 {
-    let mut r = [0; 16];
-    r.copy_from_slice(&x[at..at + 16]);
-    r
+    let (sixteens, _) = x.as_chunks::<16>();
+    (sixteens[0], sixteens[1])
 }
 
 // The compression of 64 octets, given as 32 and 32.
-pub(crate) fn compress(x: [u8; 32], h: [u8; 32]) -> Compressed
+pub(crate) fn compress(x: [u8; 32], h: [u8; 32]) -> Running
     ensures mix { result.mix ≡ σ₁ (x ++ h) }
     ensures state { result.state ≡ σ₂ (x ++ h) }
 {
-    let u3 = part(h, 0);
-    let u4 = part(h, 16);
+    let (u1, u2) = halves(x);
+    let (u3, u4) = halves(h);
     let mix = fed_forward(x, xor(u3, u4));
-    let first = fed_forward(joined(&mix, &u4), part(x, 0));
-    let second = fed_forward(joined(&xor(mix, [0xFF; 16]), &u3), part(x, 16));
+    let first = fed_forward(joined(&mix, &u4), u1);
+    let second = fed_forward(joined(&xor(mix, [0xFF; 16]), &u3), u2);
     let state = joined(&first, &second);
-    Compressed { mix, state }
+    Running { mix, state }
 }
 
-// The block of 32 octets from a place of the message on, filled with zeros where the message ends.
-fn block_at(message: &[u8], at: usize) -> [u8; 32]
-    requires { at < length message.now }
-    ensures { result ≡ padded (drop at message.now) }
+// A block of 32 octets: a piece of the message, filled with zeros.
+fn filled(piece: &[u8]) -> [u8; 32]
+    requires { length piece.now ≤ 32 }
+    ensures { result ≡ padded piece.now }
 {
     let mut block = [0; 32];
-    let n = (message.len() - at).min(32);
-    block[0..n].copy_from_slice(&message[at..at + n]);
+    block[..piece.len()].copy_from_slice(piece);
     block
 }
 
@@ -85,9 +76,8 @@ impl Running {
     fn absorb(self, block: [u8; 32]) -> Running
         ensures { result ≡ absorbed self block }
     {
-        let c = compress(block, self.state);
-        let mix = xor(self.mix, c.mix);
-        let state = c.state;
+        let Running { mix, state } = compress(block, self.state);
+        let mix = xor(self.mix, mix);
         Running { mix, state }
     }
 
@@ -96,7 +86,7 @@ impl Running {
         requires { octets ≤ longest }
         ensures { result ≡ finished self octets }
     {
-        let bits = field128((8 * octets) as u128);
+        let bits = ((8 * octets) as u128).field();
         compress(joined(&bits, &self.mix), self.state).state
     }
 }
@@ -110,9 +100,8 @@ pub fn hash(message: &[u8]) -> Result<[u8; 32], Refusal>
         return Err(Refusal::LongMessage);
     }
     let mut running = Running::start();
-    let n = octets.div_ceil(32);
-    for i in 0..n {
-        running = running.absorb(block_at(message, 32 * i));
+    for piece in message.chunks(32) {
+        running = running.absorb(filled(piece));
     }
     Ok(running.finish(octets))
 }

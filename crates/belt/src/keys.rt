@@ -3,6 +3,7 @@ ghost use Rattle.std.specs.Prelude.{◌≡◌, ℕ, ◌+◌, ◌≤◌, ◌++◌
 ghost use Rattle.belt.specs.Keys.{mixed, expand_answer};
 
 use blocks::Refusal;
+use std::array;
 
 // The key of 32 octets that a key of 16, 24 or 32 octets stands for.
 pub fn expand(key: &[u8]) -> Result<[u8; 32], Refusal>
@@ -16,25 +17,16 @@ pub fn expand(key: &[u8]) -> Result<[u8; 32], Refusal>
     }
 }
 
-// Octets and then others, 32 together.
-pub(crate) fn joined(front: &[u8], rest: &[u8]) -> [u8; 32]
-    requires { length front.now + length rest.now ≡ 32 }
+// Octets and then others, N together.
+pub(crate) fn joined<const N: usize>(front: &[u8], rest: &[u8]) -> [u8; N]
+    requires { length front.now + length rest.now ≡ N }
     ensures { result ≡ front.now ++ rest.now }
 {
-    let mut all = [0; 32];
-    lay(&mut all, front, rest);
+    let mut all = [0; N];
+    let (start, end) = all.split_at_mut(front.len());
+    start.copy_from_slice(front);
+    end.copy_from_slice(rest);
     all
-}
-
-// Writes octets and then others over a text of just their length.
-pub(crate) fn lay(all: &mut [u8], front: &[u8], rest: &[u8])
-    requires { length front.now + length rest.now ≡ length all.old }
-    ensures { all.new ≡ front.now ++ rest.now }
-{
-    let n = front.len();
-    let end = all.len();
-    all[0..n].copy_from_slice(front);
-    all[n..end].copy_from_slice(rest);
 }
 
 // The mixes of the first and of the last three words of a key of six.
@@ -42,9 +34,7 @@ fn mixes(key: &[u8]) -> [u8; 8]
     requires { length key.now ≡ 24 }
     ensures { result ≡ mixed key.now 0 ++ mixed key.now 12 }
 {
-    let [a, b, c, d] = mix(key, 0);
-    let [e, f, g, h] = mix(key, 12);
-    [a, b, c, d, e, f, g, h]
+    joined(&mix(key, 0), &mix(key, 12))
 }
 
 // The exclusive or of the three words from a place on.
@@ -52,10 +42,5 @@ fn mix(key: &[u8], at: usize) -> [u8; 4]
     requires { at + 12 ≤ length key.now }
     ensures { result ≡ mixed key.now at }
 {
-    [
-        key[at] ^ key[at + 4] ^ key[at + 8],
-        key[at + 1] ^ key[at + 5] ^ key[at + 9],
-        key[at + 2] ^ key[at + 6] ^ key[at + 10],
-        key[at + 3] ^ key[at + 7] ^ key[at + 11],
-    ]
+    array::from_fn(|j| key[at + j] ^ key[at + 4 + j] ^ key[at + 8 + j])
 }

@@ -3,4 +3,4 @@ use Rattle.belt.proofs.cipher.nine_steps.Goals as goal
 
 pub returns : goal.returns
 unfolding steps
-returns g c = cc
+returns c = cc

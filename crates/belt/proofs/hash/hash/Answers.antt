@@ -1,13 +1,16 @@
-use Rattle.std.proofs.Common.{arith}
-use Rattle.belt.proofs.Hashing.{absorbed-none, absorbed-more, accepted}
+use Rattle.std.proofs.Common.{◌≡◌, min, length, ◌∙◌, arith}
+use Rattle.std.specs.Slice.Iter.{chunks_rest}
+use Rattle.belt.proofs.Hashing.{absorbed-piece, accepted}
 use Rattle.belt.proofs.hash.hash.Goals as goal
 
-pub loop-i-init : goal.loop-i-init
-loop-i-init c = let e = absorbed-none c.div_ceil-n.result c.start-running.result c.args.message.now in cc
-
-pub loop-i-preserved : goal.loop-i-preserved
-loop-i-preserved c = let e = absorbed-more c.div_ceil-n.result c.loop-i.i c.loop-i.running c.args.message.now c.loop-i-test.true in cc
+pub loop-piece-preserved : goal.loop-piece-preserved
+loop-piece-preserved c =
+    let step = c.in-Some.ensures.steps in
+    let left = chunks_rest c.loop-piece.piece-iterator in
+    let long : length c.in-Some.piece.now ≡ min 32 (length left) = rw c.loop-piece.invariant.size at step.1.1 in
+    let more = absorbed-piece c.loop-piece.running left c.in-Some.piece.now (chunks_rest c.next.new.self) step.1.0 long step.1.2 in
+    record { size = step.0 ∙ c.loop-piece.invariant.size; whole = cc }
 
 pub returns : goal.returns
 returns c =
-    accepted c.args.message.now _ c.div_ceil-n.result c.loop-i.i c.loop-i.running (omega arith) (omega arith) c.loop-i-test.false c.loop-i.invariant c.finish.ensures
+    accepted c.args.message.now _ _ c.loop-piece.running (omega arith) c.in-None.ensures.steps.1.0 c.loop-piece.invariant.whole c.finish.ensures
