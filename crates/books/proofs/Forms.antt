@@ -39,11 +39,8 @@ times-among n (suc m) k h l =
     omega (arith, times_below (suc n) m k (omega arith)))
     (λ (ne : k ≡ suc n → ⊥).
     let u : cond {A = ℕ} (eqb k (suc n)) 1 0 ≡ 0 = cond-false (eqb k (suc n)) 1 0 (ne_eqb k (suc n) ne) in
-    omega (arith, times-among (suc n) m k (beyond k n h ne) (omega arith)))
+    omega (arith, times-among (suc n) m k (omega (arith, h, ne)) (omega arith)))
     (cases_eq k (suc n))
-  where
-    beyond : (k n : ℕ) → n < k → (k ≡ suc n → ⊥) → suc n < k
-    beyond k n h ne = omega arith
 
 times-all : (n k : ℕ) → times k (above 0 n) ≡ cell_times n k
 times-all n zero = times_below 0 n 0 (omega arith)
@@ -53,15 +50,17 @@ times-all n (suc i) =
     (cases_lt n (suc i))
 
 -- The cells above n are linked, each to the one after it, and the first of them is free.
-abbrev pub Formed : {T : Type 0} → List (Cell T) → ℕ → ℕ → Type 0
+unfoldable pub Formed : {T : Type 0} → List (Cell T) → ℕ → ℕ → Type 0
 Formed cells n free = Road (nexts cells) free (above n (length cells - n)) 0
 
-pub formed-none : {T : Type 0} (cells : List (Cell T)) (n : ℕ) → n ≡ length cells → Formed cells n 0
-formed-none cells n e = let z : length cells - n ≡ 0 = omega arith in rw z
+pub formed_none : {T : Type 0} (cells : List (Cell T)) (n : ℕ) → n ≡ length cells → Formed cells n 0
+unfolding Formed
+formed_none cells n e = let z : length cells - n ≡ 0 = omega arith in rw z
 
-pub formed-more : {T : Type 0} (cells cells' : List (Cell T)) (n free : ℕ) → 0 < n → n ≤ length cells → nexts cells' ≡ put (nexts cells) n free → Formed cells n free → Formed cells' (n - 1) n
-formed-more cells cells' zero free p l e r = absurd (omega arith)
-formed-more {T = T} cells cells' (suc k) free p l e r =
+pub formed_more : {T : Type 0} (cells cells' : List (Cell T)) (n free : ℕ) → 0 < n → n ≤ length cells → nexts cells' ≡ put (nexts cells) n free → Formed cells n free → Formed cells' (n - 1) n
+unfolding Formed
+formed_more cells cells' zero free p l e r = absurd (omega arith)
+formed_more {T = T} cells cells' (suc k) free p l e r =
     let nx : List ℕ = nexts cells in
     let len : length cells' ≡ length cells = sym (length-map cells' (λ c. c.next)) ∙ ap length e ∙ length-put nx (suc k) free ∙ length-map cells (λ c. c.next) in
     let m : ℕ = length cells - suc k in
@@ -76,8 +75,9 @@ formed-more {T = T} cells cells' (suc k) free p l e r =
     let S : ℕ → Type 0 = λ j. Road (nexts cells') (suc k) (above j (length cells' - (suc k - 1))) 0 in
     subst S (sym b) (subst R (sym a) (subst Q (sym e) whole))
 
-pub formed-all : {T : Type 0} (cells : List (Cell T)) (free : ℕ) → length cells ≤ most_cells → Formed cells 0 free → Sound cells (record { first = 0; last = 0; free = free; count = 0 })
-formed-all {T = T} cells free few r =
+pub formed_all : {T : Type 0} (cells : List (Cell T)) (free : ℕ) → length cells ≤ most_cells → Formed cells 0 free → Sound cells (record { first = 0; last = 0; free = free; count = 0 })
+unfolding Formed
+formed_all {T = T} cells free few r =
     let nx : List ℕ = nexts cells in
     let n : ℕ = length cells in
     let c : Chain = record { first = 0; last = 0; free = free; count = 0 } in
@@ -92,3 +92,6 @@ formed-all {T = T} cells free few r =
       few,
     ) in
     sound nx c [] (above 0 n) (record { in_use = refl; unused = subst P z r; parted = subst Q (sym (length-map cells (λ x. x.next))) p })
+
+-- For the goals that need no answer.
+pub ruleset forming = (formed_none, formed_more, formed_all)

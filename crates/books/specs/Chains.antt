@@ -4,15 +4,10 @@ use Rattle.std.specs.List.{flat_map}
 use Rattle.books.specs.Walks.{value_of, numbers, times, last_of}
 use Rattle.books.specs.declared.links.Cell.{Cell}
 use Rattle.books.specs.declared.links.Chain.{Chain}
-use Rattle.books.specs.declared.links.Full.{Full}
 
 -- The most cells that two chains are laid over.
 abbrev pub most_cells : ℕ
 most_cells = 4096
-
--- The answer that no cell is free.
-abbrev pub none_free : Full
-none_free = record {}
 
 -- The next numbers and the elements, cell by cell.
 abbrev pub nexts : {T : Type 0} → List (Cell T) → List ℕ

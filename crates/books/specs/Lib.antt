@@ -1,5 +1,4 @@
 pub mod Lists
 pub mod Walks
 pub mod Chains
-pub mod Parts
 pub mod Books

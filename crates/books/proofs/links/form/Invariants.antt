@@ -4,6 +4,3 @@ use Rattle.books.proofs.links.form.Given as goal
 
 abbrev pub invariant-loop-n : goal.invariant-loop-n
 invariant-loop-n g l = (l.n ≤ length l.cells) × Formed l.cells l.n l.free
-
-abbrev pub decreases-loop-n : goal.decreases-loop-n
-decreases-loop-n g l = l.n

@@ -1,6 +1,0 @@
-use Rattle.std.proofs.Common.{rules}
-use Rattle.books.proofs.Bound.{each-on-one}
-use Rattle.books.proofs.book.Book.new.Goals as goal
-
-pub returns : goal.returns
-returns g c = search (rules, each-on-one)
