@@ -1,6 +1,6 @@
 -- What the two ways through the rounds have in common.
 use Rattle.std.specs.Prelude.{◌≡◌, ℕ, ◌+◌, ◌-◌, ◌*◌, ◌%◌, List, [], ◌∷◌, fold, slice_index, refl}
-use Rattle.std.proofs.Common.{sym, ap, arith}
+use Rattle.std.proofs.Common.{ap, arith}
 use Rattle.belt.specs.Cipher.{steps, round_key, swaps_forward, swaps_backward, round_forward, round_backward, rounds_up, rounds_down, loaded, stored, encrypt, decrypt}
 use Rattle.belt.specs.declared.cipher.Quad.{Quad}
 

@@ -49,6 +49,7 @@ fn g<const R: usize>(u: u32) -> u32
 
 // The nine steps of round i.
 #[inline(always)]
+#[tactic(auto, unfolding(crate::specs::Cipher::steps))]
 fn nine_steps(i: u32, k: [u32; 7], s: Quad) -> Quad
     ensures { result ≡ steps i (slice_index k 0) (slice_index k 1) (slice_index k 2) (slice_index k 3) (slice_index k 4) (slice_index k 5) (slice_index k 6) s }
 {

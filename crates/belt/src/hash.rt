@@ -1,5 +1,5 @@
 // The hash of a message, by the BelT block alone.
-ghost use Rattle.std.specs.Prelude.{◌≡◌, ℕ, ◌+◌, ◌*◌, ◌<◌, ◌≤◌, ◌++◌, length, take, drop};
+ghost use Rattle.std.specs.Prelude.{◌≡◌, ◌≤◌, ◌++◌, length};
 ghost use Rattle.belt.specs.Compression.{sixteen_at, fed, σ₁, σ₂};
 ghost use Rattle.blocks.specs.Octets.{longest};
 ghost use Rattle.belt.specs.Hash.{padded, start, absorbed, finished, hash_answer};
@@ -21,6 +21,7 @@ pub(crate) struct Running {
 }
 
 // The image of p under a key of 32 octets, mixed with p again.
+#[tactic(auto, unfolding(crate::specs::Compression::fed))]
 fn fed_forward(key: [u8; 32], p: [u8; 16]) -> [u8; 16]
     ensures { result ≡ fed key p }
 {

@@ -1,5 +1,5 @@
 // The expansion of a key to 32 octets.
-ghost use Rattle.std.specs.Prelude.{◌≡◌, ℕ, ◌+◌, ◌≤◌, ◌++◌, length};
+ghost use Rattle.std.specs.Prelude.{◌≡◌, ◌+◌, ◌≤◌, ◌++◌, length};
 ghost use Rattle.belt.specs.Keys.{mixed, expand_answer};
 
 use blocks::Refusal;

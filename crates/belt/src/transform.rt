@@ -1,5 +1,5 @@
 // The transformation of a key to a new key, by its level and a header.
-ghost use Rattle.std.specs.Prelude.{◌≡◌, ℕ, ◌++◌, length};
+ghost use Rattle.std.specs.Prelude.{◌≡◌, length};
 ghost use Rattle.blocks.specs.Written.{written};
 ghost use Rattle.belt.specs.Transformation.{word_for, transformed, transform_answer};
 

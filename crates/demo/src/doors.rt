@@ -1,96 +1,71 @@
 // The keys of a site, and the tags at its doors.
+use crate::stop::Stop;
 use belt::BeltBlock;
-use blocks::Refusal;
 use hexadecimal::Hex;
-use modes::wrap::wrap;
-use rounds::kit::kit;
+use modes::wrap::{SCRATCH, wrap};
+use rounds::kit::{KIT, kit};
 use rounds::tag::{check, issue};
+use std::alloc::Global;
+use std::io;
 
 // The site, and the header under which its key was wrapped.
 const SITE: u16 = 1;
 
 const HEADER: [u8; 16] = *b"site one, key 01";
 
-pub fn show(rt: &HostRuntime, belt: BeltBlock, site_key: &[u8]) -> anyhow::Result<()> {
-    let mut keys = [0; 96];
-    match site_keys(belt, site_key, &mut keys) {
-        Ok(size) => {
-            let n = size / 3;
-            println!(rt; "site {SITE}")?;
-            if n <= 32 {
-                println!(rt; "  tag key   {}", Hex(&keys[0..n]))?;
-                println!(rt; "  seal key  {}", Hex(&keys[n..2 * n]))?;
-                println!(rt; "  check key {}", Hex(&keys[2 * n..3 * n]))?;
-                show_tags(rt, &keys[0..n])?;
-            }
-            Ok(())
-        }
-        Err(refusal) => refused(rt, refusal),
-    }
+pub fn show(rt: &HostRuntime, belt: &mut BeltBlock, site_key: &[u8]) -> Result<(), Stop> {
+    let keys = site_keys(rt.alloc(), belt, site_key)?;
+    let n = keys.len() / 3;
+    let (tag_key, others) = keys.split_at(n);
+    let (seal_key, check_key) = others.split_at(n);
+    println!(rt; "site {SITE}")?;
+    println!(rt; "  tag key   {}", Hex(tag_key))?;
+    println!(rt; "  seal key  {}", Hex(seal_key))?;
+    println!(rt; "  check key {}", Hex(check_key))?;
+    show_tags(rt, &mut BeltBlock::new(tag_key)?)
 }
 
-fn refused(rt: &HostRuntime, refusal: Refusal) -> anyhow::Result<()> {
-    println!(rt; "refused   {}", refusal.number())?;
-    Ok(())
-}
-
-// Wraps the site key as the key room does, and makes the kit of it as a wand's maker does.
-fn site_keys(belt: BeltBlock, site_key: &[u8], keys: &mut [u8]) -> Result<usize, Refusal> {
-    let mut block = belt;
-    let mut wrapped = [0; 272];
-    let mut scratch = [0; 272];
-    let size = wrap(&mut block, HEADER, site_key, &mut wrapped)?;
-    if size > 272 {
-        return Err(Refusal::WrappedLength);
-    }
-    kit(
-        &mut block,
+// Wraps the site key as the key room does, and makes the kit of it as a wand's maker does: the tag, seal and check keys.
+fn site_keys(alloc: Global, belt: &mut BeltBlock, site_key: &[u8]) -> Result<Vec<u8>, Stop> {
+    let mut wrapped = vec![in alloc; 0; site_key.len() + 16]?;
+    wrap(belt, HEADER, site_key, wrapped.as_mut_slice())?;
+    let mut keys = vec![in alloc; 0; KIT]?;
+    let size = kit(
+        belt,
         HEADER,
-        &wrapped[0..size],
+        wrapped.as_slice(),
         SITE,
-        &mut scratch,
-        keys,
-    )
+        &mut [0; SCRATCH],
+        keys.as_mut_slice(),
+    )?;
+    keys.truncate(size);
+    Ok(keys)
 }
 
-// Issues a tag for two doors, and reads them as a wand does: genuine, garbled, and of another site.
-fn show_tags(rt: &HostRuntime, tag_key: &[u8]) -> anyhow::Result<()> {
-    match BeltBlock::new(tag_key) {
-        Ok(block) => {
-            for checkpoint in [7, 12] {
-                show_tag(rt, block, checkpoint)?;
-            }
-            Ok(())
-        }
-        Err(refusal) => refused(rt, refusal),
+// Issues a tag for two doors, and reads them as a wand does: genuine, of another site, and garbled.
+fn show_tags(rt: &HostRuntime, belt: &mut BeltBlock) -> Result<(), Stop> {
+    for checkpoint in [7, 12] {
+        let mut tag = [0; 24];
+        issue(belt, SITE, checkpoint, 1000, &mut tag)?;
+        println!(rt; "  tag       {}", Hex(&tag))?;
+        show_read(rt, belt, SITE, &tag)?;
+        show_read(rt, belt, SITE + 1, &tag)?;
+        tag[23] ^= 1;
+        show_read(rt, belt, SITE, &tag)?;
     }
-}
-
-fn show_tag(rt: &HostRuntime, belt: BeltBlock, checkpoint: u16) -> anyhow::Result<()> {
-    let mut block = belt;
-    let mut tag = [0; 24];
-    if let Err(refusal) = issue(&mut block, SITE, checkpoint, 1000, &mut tag) {
-        return refused(rt, refusal);
-    }
-    println!(rt; "  tag       {}", Hex(&tag))?;
-    read(rt, belt, SITE, &tag)?;
-    read(rt, belt, SITE + 1, &tag)?;
-    tag[23] ^= 1;
-    read(rt, belt, SITE, &tag)
+    Ok(())
 }
 
 // Prints what reading a tag at a site tells.
-fn read(rt: &HostRuntime, belt: BeltBlock, site: u16, text: &[u8]) -> anyhow::Result<()> {
-    let mut block = belt;
-    match check(&mut block, site, text) {
+fn show_read(rt: &HostRuntime, belt: &mut BeltBlock, site: u16, text: &[u8]) -> io::Result<()> {
+    match check(belt, site, text) {
         Ok(tag) => println!(rt;
             "            at site {site}: door {}, serial {}",
             tag.checkpoint, tag.serial
-        )?,
+        ),
         Err(refusal) => println!(rt;
             "            at site {site}: refused with {}",
             refusal.number()
-        )?,
+        ),
     }
-    Ok(())
 }

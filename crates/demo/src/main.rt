@@ -4,16 +4,21 @@
 
 mod doors;
 mod steps;
+mod stop;
 mod texts;
 
 use anyhow::anyhow;
 use belt::BeltBlock;
 use hexadecimal::Hex;
 use std::env;
+use stop::Stop;
 
 const EXAMPLE_KEY: &[u8] = b"E9DEE72C8F0C0FA62DDB49F46F73964706075316ED247A3739CBA38303A98BF6";
 
 const EXAMPLE_BLOCK: &[u8] = b"B194BAC80A08F53B366D008E584A5DE4";
+
+// The most octets that a key is read with.
+const LONGEST: usize = 64;
 
 fn main(rt: HostRuntime) -> anyhow::Result<()> {
     run(&rt)
@@ -23,35 +28,33 @@ fn run(rt: &HostRuntime) -> anyhow::Result<()> {
     let mut args = env::args(rt)?;
     let _program = args.next();
     match (args.next(), args.next()) {
-        (Some(key), Some(block)) => show(rt, key.as_bytes(), block.as_bytes()),
+        (Some(key), Some(block)) => read(rt, key.as_bytes(), block.as_bytes()),
         (Some(_), None) => Err(anyhow!("give a key and a block, or nothing")),
-        (None, _) => show(rt, EXAMPLE_KEY, EXAMPLE_BLOCK),
+        (None, _) => read(rt, EXAMPLE_KEY, EXAMPLE_BLOCK),
     }
 }
 
-fn show(rt: &HostRuntime, key_text: &[u8], block_text: &[u8]) -> anyhow::Result<()> {
-    let mut key = [0; 64];
-    let Some(length) = hexadecimal::parse(key_text, &mut key) else {
-        return Err(anyhow!(
-            "a key is at most 64 octets, in pairs of upper-case hexadecimal digits"
-        ));
-    };
-    let mut block = [0; 16];
-    if hexadecimal::parse(block_text, &mut block) != Some(16) {
-        return Err(anyhow!("a block is 16 octets, in pairs of upper-case hexadecimal digits"));
+// Reads the key and the block, and shows them; a refusal on the way is printed here.
+fn read(rt: &HostRuntime, key: &[u8], block: &[u8]) -> anyhow::Result<()> {
+    let key = hexadecimal::decode(rt.alloc(), key)?
+        .filter(|key| key.len() <= LONGEST)
+        .ok_or_else(|| {
+            anyhow!("a key is at most 64 octets, in pairs of upper-case hexadecimal digits")
+        })?;
+    let block = hexadecimal::decode_array(block).ok_or_else(|| {
+        anyhow!("a block is 16 octets, in pairs of upper-case hexadecimal digits")
+    })?;
+    match show(rt, key.as_slice(), block) {
+        Err(refused @ Stop::Refused(_)) => Ok(println!(rt; "{refused}")?),
+        shown => Ok(shown?),
     }
-    let key = &key[0..length];
+}
+
+fn show(rt: &HostRuntime, key: &[u8], block: [u8; 16]) -> Result<(), Stop> {
     println!(rt; "key       {}", Hex(key))?;
     println!(rt; "block     {}", Hex(&block))?;
-    match BeltBlock::new(key) {
-        Ok(belt) => {
-            steps::show(rt, belt, block)?;
-            texts::show(rt, belt)?;
-            doors::show(rt, belt, key)
-        }
-        Err(refusal) => {
-            println!(rt; "refused   {}", refusal.number())?;
-            Ok(())
-        }
-    }
+    let mut belt = BeltBlock::new(key)?;
+    steps::show(rt, &mut belt, block)?;
+    texts::show(rt, &mut belt)?;
+    doors::show(rt, &mut belt, key)
 }

@@ -4,23 +4,21 @@ ghost use Rattle.std.specs.Prelude.{◌≡◌};
 use belt::BeltBlock;
 use blocks::{BenchBlock, Block, PairBlock};
 use hexadecimal::Hex;
+use std::io;
 
-pub fn show(rt: &HostRuntime, belt: BeltBlock, block: [u8; 16]) -> anyhow::Result<()> {
+pub fn show(rt: &HostRuntime, belt: &mut BeltBlock, block: [u8; 16]) -> io::Result<()> {
     println!(rt; "by BelT")?;
-    let mut alone = belt;
-    show_steps(rt, &mut alone, block)?;
+    show_steps(rt, belt, block)?;
     println!(rt; "by the pair of BelT and the bench block with mask 00..0F")?;
     let bench = BenchBlock::new([0, 1, 2, 3, 4, 5, 6, 7, 8, 9, 10, 11, 12, 13, 14, 15]);
-    let mut pair = PairBlock::new(belt, bench);
-    show_steps(rt, &mut pair, block)
+    show_steps(rt, &mut PairBlock::new(*belt, bench), block)
 }
 
 // Prints the image of a block, and the block that comes back from it.
-fn show_steps<B: Block>(rt: &HostRuntime, steps: &mut B, block: [u8; 16]) -> anyhow::Result<()> {
+fn show_steps<B: Block>(rt: &HostRuntime, steps: &mut B, block: [u8; 16]) -> io::Result<()> {
     let (image, back) = there_and_back(steps, block);
     println!(rt; "  image   {}", Hex(&image))?;
-    println!(rt; "  back    {}", Hex(&back))?;
-    Ok(())
+    println!(rt; "  back    {}", Hex(&back))
 }
 
 // A block's image and what the image leads back to: the block, whatever the steps.

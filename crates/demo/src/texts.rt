@@ -1,4 +1,5 @@
 // A short text in each mode, its checksum and its hash.
+use crate::stop::Stop;
 use belt::BeltBlock;
 use belt::hash::hash;
 use blocks::Refusal;
@@ -6,79 +7,64 @@ use hexadecimal::Hex;
 use modes::cbc::{cbc_decrypt, cbc_encrypt};
 use modes::cfb::{cfb_decrypt, cfb_encrypt};
 use modes::checksum::checksum;
-use modes::ctr::{ctr_decrypt, ctr_encrypt};
+use modes::ctr::ctr;
 use modes::ecb::{ecb_decrypt, ecb_encrypt};
 
-const TEXT: [u8; 35] = *b"door 7 at night, and door 12 by day";
+const SIZE: usize = 35;
+
+const TEXT: [u8; SIZE] = *b"door 7 at night, and door 12 by day";
 
 const START: [u8; 16] = *b"a start of its o";
 
-#[derive(Clone, Copy)]
-enum Mode {
-    Ecb,
-    Cbc,
-    Cfb,
-    Ctr,
-}
-
-impl Mode {
-    fn name(self) -> &'static str {
-        match self {
-            Mode::Ecb => "ECB",
-            Mode::Cbc => "CBC",
-            Mode::Cfb => "CFB",
-            Mode::Ctr => "CTR",
-        }
-    }
-
-    fn encrypt(self, block: &mut BeltBlock, text: &[u8], out: &mut [u8]) -> Result<usize, Refusal> {
-        match self {
-            Mode::Ecb => ecb_encrypt(block, text, out),
-            Mode::Cbc => cbc_encrypt(block, START, text, out),
-            Mode::Cfb => cfb_encrypt(block, START, text, out),
-            Mode::Ctr => ctr_encrypt(block, START, text, out),
-        }
-    }
-
-    fn decrypt(self, block: &mut BeltBlock, text: &[u8], out: &mut [u8]) -> Result<usize, Refusal> {
-        match self {
-            Mode::Ecb => ecb_decrypt(block, text, out),
-            Mode::Cbc => cbc_decrypt(block, START, text, out),
-            Mode::Cfb => cfb_decrypt(block, START, text, out),
-            Mode::Ctr => ctr_decrypt(block, START, text, out),
-        }
-    }
-}
-
-pub fn show(rt: &HostRuntime, belt: BeltBlock) -> anyhow::Result<()> {
+pub fn show(rt: &HostRuntime, belt: &mut BeltBlock) -> Result<(), Stop> {
     println!(rt; "the text  {}", Hex(&TEXT))?;
-    for mode in [Mode::Ecb, Mode::Cbc, Mode::Cfb, Mode::Ctr] {
-        show_mode(rt, belt, mode)?;
-    }
-    let mut block = belt;
-    if let Ok(sum) = checksum(&mut block, &TEXT) {
-        println!(rt; "  checksum {}", Hex(&sum))?;
-    }
-    if let Ok(digest) = hash(&TEXT) {
-        println!(rt; "  hash    {}", Hex(&digest))?;
-    }
+    show_mode(rt, belt, "ECB", ecb_encrypt, ecb_decrypt)?;
+    show_mode(
+        rt,
+        belt,
+        "CBC",
+        |block, text, out| cbc_encrypt(block, START, text, out),
+        |block, text, out| cbc_decrypt(block, START, text, out),
+    )?;
+    show_mode(
+        rt,
+        belt,
+        "CFB",
+        |block, text, out| cfb_encrypt(block, START, text, out),
+        |block, text, out| cfb_decrypt(block, START, text, out),
+    )?;
+    show_mode(
+        rt,
+        belt,
+        "CTR",
+        |block, text, out| ctr(block, START, text, out),
+        |block, text, out| ctr(block, START, text, out),
+    )?;
+    println!(rt; "  checksum {}", Hex(&checksum(belt, &TEXT)?))?;
+    println!(rt; "  hash    {}", Hex(&hash(&TEXT)?))?;
     Ok(())
 }
 
 // Prints the text enciphered, and whether it is restored from that.
-fn show_mode(rt: &HostRuntime, belt: BeltBlock, mode: Mode) -> anyhow::Result<()> {
-    let mut block = belt;
-    let mut cipher = [0; 35];
-    let mut plain = [0; 35];
-    let name = mode.name();
-    let sent = mode.encrypt(&mut block, &TEXT, &mut cipher).is_ok();
+fn show_mode<E, D>(
+    rt: &HostRuntime,
+    belt: &mut BeltBlock,
+    name: &str,
+    encrypt: E,
+    decrypt: D,
+) -> Result<(), Stop>
+where
+    E: FnOnce(&mut BeltBlock, &[u8], &mut [u8]) -> Result<usize, Refusal>,
+    D: FnOnce(&mut BeltBlock, &[u8], &mut [u8]) -> Result<usize, Refusal>,
+    requires encrypts { E.IsAlwaysCallable encrypt }
+    requires decrypts { D.IsAlwaysCallable decrypt }
+{
+    let mut cipher = [0; SIZE];
+    let mut plain = [0; SIZE];
+    encrypt(belt, &TEXT, &mut cipher)?;
     println!(rt; "  {name}     {}", Hex(&cipher))?;
-    let back = mode.decrypt(&mut block, &cipher, &mut plain).is_ok();
-    let restored = if sent && back && plain == TEXT {
-        "restored"
-    } else {
-        "lost"
-    };
+    decrypt(belt, &cipher, &mut plain)?;
+    let restored = if plain == TEXT { "restored" } else { "lost" };
     println!(rt; "          {restored}")?;
     Ok(())
 }

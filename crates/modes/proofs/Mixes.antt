@@ -1,9 +1,10 @@
 -- A short piece that is filled up, in mixes.
-use Rattle.std.proofs.Common.{◌≡◌, ℕ, ◌+◌, ◌-◌, List, ◌++◌, length, take, drop, replicate, sym, ap, ◌∙◌, arith}
+use Rattle.std.proofs.Common.{◌≡◌, ℕ, ◌+◌, List, [], ◌∷◌, ◌++◌, length, take, drop, replicate, fold, sym, refl, ap, ◌∙◌, ap₂, arith}
+use lib.Bits.{bit_or, bit_xor, xor_self}
 use Rattle.std.proofs.lemmas.List.{length-drop, length-take-le, drop-replicate, take-append-drop}
 use Rattle.blocks.specs.Octets.{xor_each}
 use Rattle.modes.specs.Modes.{zeroed}
-use Rattle.blocks.specs.Octetwise.{xor_each-append, xor_each-comm, xor_each-zeros}
+use Rattle.blocks.specs.Octetwise.{xor_each-append, xor_each-comm, xor_each-zeros, xor-none, or-none}
 
 -- q and then n zeros, mixed with c: only the front of c changes.
 pub xor-filled : (q c : List ℕ) (n : ℕ) → length q + n ≡ length c → xor_each (q ++ replicate n 0) c ≡ xor_each q (take (length q) c) ++ drop (length q) c
@@ -14,10 +15,19 @@ xor-filled q c n e =
     ∙ ap (λ z. xor_each q (take k c) ++ z)
     (xor_each-comm (replicate n 0) (drop k c) ∙ xor_each-zeros (drop k c) n (omega (arith, length-drop k c)))
 
--- The short piece past sixteen octets, filled up with the last ones of sixteen zeros.
-pub zero-filled : (x : List ℕ) → drop 16 x ++ drop (length x - 16) (replicate 16 0) ≡ zeroed (drop 16 x)
-zero-filled x = ap (λ z. drop 16 x ++ z) (drop-replicate (length x - 16) 16 0 ∙ ap (λ n. replicate (16 - n) 0) (sym (length-drop 16 x)))
+-- A short piece, filled up with the last ones of sixteen zeros.
+pub zero-filled : (q : List ℕ) → q ++ drop (length q) (replicate 16 0) ≡ zeroed q
+zero-filled q = ap (λ z. q ++ z) (drop-replicate (length q) 16 0)
 
--- The same with the last octets of any base.
-pub base-filled : (x base : List ℕ) → drop 16 x ++ drop (length x - 16) base ≡ drop 16 x ++ drop (length (drop 16 x)) base
-base-filled x base = ap (λ n. drop 16 x ++ drop n base) (sym (length-drop 16 x))
+-- The or of all octets of a mix is nothing exactly where the two are the same.
+pub or-all : (xs ys : List ℕ) (d : ℕ) → length xs ≡ length ys → fold bit_or d (xor_each xs ys) ≡ 0 → (d ≡ 0) × (xs ≡ ys)
+or-all [] [] d l e = (e, refl)
+or-all [] (y ∷ ys) d l e = absurd (omega arith)
+or-all (x ∷ xs) [] d l e = absurd (omega arith)
+or-all (x ∷ xs) (y ∷ ys) d l e =
+    let rest = or-all xs ys (bit_or d (bit_xor x y)) (omega arith) e in
+    let p = or-none d (bit_xor x y) rest.0 in (p.0, ap₂ ◌∷◌ (xor-none x y p.1) rest.1)
+
+pub or-same : (xs : List ℕ) → fold bit_or 0 (xor_each xs xs) ≡ 0
+or-same [] = refl
+or-same (x ∷ xs) = ap (λ z. fold bit_or (bit_or 0 z) (xor_each xs xs)) (xor_self x) ∙ or-same xs

@@ -1,6 +1,6 @@
 -- What an answer of unwrapping tells.
 use Rattle.std.proofs.Common.{◌≡◌, ℕ, ◌+◌, ◌-◌, ◌≤◌, Bool, true, false, List, ◌++◌, length, take, drop, Ok, Err, Decides, Result, sym, ap, ◌∙◌, ap₂, arith}
-use Rattle.std.proofs.lemmas.List.{length-append, length-drop, length-take-le, take-append-drop, take_at, drop_at, take_all, drop_all, append-nil}
+use Rattle.std.proofs.lemmas.List.{length-append, length-take-le, take-append-drop, take_at, drop_at}
 use Rattle.std.proofs.lemmas.Bool.Decides.{nat_tests, same_from_decides}
 use Rattle.blocks.specs.Octets.{Octets, Sixteen}
 use Rattle.blocks.specs.Same.{same}
@@ -79,17 +79,9 @@ module _ (f : List ℕ → List ℕ) (lands : Lands f) (header y out₀ out₁ :
   exactly = record { only = found; every = given }
 
 -- the test of the last sixteen octets, as the code takes it
-pub header-same : (y u header got : List ℕ) (m : ℕ) (b : Bool) → u ≡ y → length u ≡ m → got ≡ take 16 (drop (m - 16) u) → Decides b (got ≡ header)
+pub header-same : (y u header got : List ℕ) (m : ℕ) (b : Bool) → u ≡ y → got ≡ drop (m - 16) u → Decides b (got ≡ header)
     → b ≡ same (drop (m - 16) y) header
-header-same y u header got m b e n is h =
-    let d : got ≡ drop (m - 16) y =
-    is ∙ take_all 16 (drop (m - 16) u) (omega (arith, length-drop (m - 16) u)) ∙ ap (drop (m - 16)) e in
+header-same y u header got m b e is h =
+    let d : got ≡ drop (m - 16) y = is ∙ ap (drop (m - 16)) e in
     same_from_decides b (same (drop (m - 16) y) header) h
     ((λ t. d ∙ same_true (drop (m - 16) y) header t), (λ t. ap (λ z. same z header) (sym d ∙ t) ∙ same_self header))
-
--- the key text and the header, as they are written
-pub laid : (x header p q r : List ℕ) → r ≡ take (length x) (p ++ q) ++ (header ++ drop (length x + 16) (p ++ q)) → p ≡ x → length (p ++ q) ≤ length x + 16
-    → r ≡ x ++ header
-laid x header p q r put e n =
-    put ∙ ap₂ (λ a b. a ++ (header ++ b)) (take_at p q (length x) (ap length e) ∙ e) (drop_all (length x + 16) (p ++ q) n)
-    ∙ ap (λ a. x ++ a) (append-nil header)

@@ -49,6 +49,10 @@ cbc_back g = record {
 abbrev pub cbc_decrypt : (List ℕ → List ℕ) → List ℕ → List ℕ → List ℕ
 cbc_decrypt g start x = glue (stealing (cbc_back g) start (pieces x))
 
+-- CFB: each piece is mixed with the image of the text y that was fed back before it; fed says what is fed back of a piece and its answer.
+abbrev pub cfb_row : (List ℕ → List ℕ → List ℕ) → (List ℕ → List ℕ) → Stream
+cfb_row fed f = record { turn = λ y p. xor_each p (f y); next = λ y p. fed p (xor_each p (f y)) }
+
 -- CFB encryption: each piece is mixed with the image of the answer y before it. (`xor_each` stops at the end of a short piece.)
 abbrev pub cfb_forth : (List ℕ → List ℕ) → Stream
 cfb_forth f = record { turn = λ y p. xor_each p (f y); next = λ y p. xor_each p (f y) }

@@ -1,10 +1,10 @@
 -- A text cut into pieces of sixteen octets.
-use Rattle.std.specs.Prelude.{ℕ, zero, suc, ◌+◌, ◌/◌, List, [], ◌∷◌, ◌++◌, length, take, drop}
+use Rattle.std.specs.Prelude.{ℕ, ◌+◌, ◌/◌, List, [], ◌∷◌, ◌++◌, length}
+use Rattle.std.specs.Simd.{first_chunks}
 
 -- The first n pieces.
 abbrev pub cut : ℕ → List ℕ → List (List ℕ)
-cut zero x = []
-cut (suc n) x = take 16 x ∷ cut n (drop 16 x)
+cut n x = first_chunks 16 n x
 
 -- All of them: each of sixteen octets, but that the last may be shorter. Nothing has no piece.
 abbrev pub pieces : List ℕ → List (List ℕ)

@@ -7,7 +7,7 @@ ghost use Rattle.modes.specs.Laws.{CbcKeeps, CbcDecryptUndoes, CbcEncryptUndoes,
 ghost use Rattle.std.proofs.Common.{rules};
 
 use crate::machine::{Mode, apply};
-use crate::parts::{filled, load, store_two};
+use crate::parts::{filled, store_two};
 use blocks::octets::xor;
 use blocks::{Block, Refusal};
 
@@ -18,17 +18,15 @@ struct Encryption {
 }
 
 impl Mode for Encryption {
-    ghost least = { 16 };
+    ghost LEAST = { 16 };
+
+    const LEAST: usize = 16;
 
     ghost makes = { λ s m x. cbc_encrypt m.image s.before x };
 
     ghost sized = { Prim.search rules };
 
     ghost none = { Prim.search rules };
-
-    fn fewest() -> usize {
-        16
-    }
 
     fn turn<B: Block>(&mut self, block: &mut B, p: [u8; 16]) -> [u8; 16] {
         let c = block.forward(xor(p, self.before));
@@ -37,8 +35,9 @@ impl Mode for Encryption {
     }
 
     fn finish<B: Block>(&mut self, block: &mut B, rest: &[u8], out: &mut [u8]) {
-        let c = block.forward(xor(load(rest, 0), self.before));
-        let d = block.forward(xor(filled(rest, [0; 16]), c));
+        let (p, q) = rest.split_first_chunk().unwrap();
+        let c = block.forward(xor(*p, self.before));
+        let d = block.forward(xor(filled(q, [0; 16]), c));
         store_two(out, d, c);
     }
 }
@@ -50,17 +49,15 @@ struct Decryption {
 }
 
 impl Mode for Decryption {
-    ghost least = { 16 };
+    ghost LEAST = { 16 };
+
+    const LEAST: usize = 16;
 
     ghost makes = { λ s m x. cbc_decrypt m.preimage s.before x };
 
     ghost sized = { Prim.search rules };
 
     ghost none = { Prim.search rules };
-
-    fn fewest() -> usize {
-        16
-    }
 
     fn turn<B: Block>(&mut self, block: &mut B, p: [u8; 16]) -> [u8; 16] {
         let x = xor(block.backward(p), self.before);
@@ -81,8 +78,9 @@ impl Mode for Decryption {
     }
 
     fn finish<B: Block>(&mut self, block: &mut B, rest: &[u8], out: &mut [u8]) {
-        let w = xor(block.backward(load(rest, 0)), filled(rest, [0; 16]));
-        let d = xor(block.backward(filled(rest, w)), self.before);
+        let (p, q) = rest.split_first_chunk().unwrap();
+        let w = xor(block.backward(*p), filled(q, [0; 16]));
+        let d = xor(block.backward(filled(q, w)), self.before);
         store_two(out, d, w);
     }
 }

@@ -8,16 +8,16 @@ ghost use Rattle.modes.specs.Outcome.{mode_answer};
 ghost use Rattle.modes.specs.Laws.{CtrKeeps, CtrUndoes, CtrApart};
 ghost use Rattle.std.proofs.Common.{rules};
 
-use crate::machine::{Mode, admit, run};
+use crate::machine::{Mode, apply};
 use crate::parts::mix;
-use blocks::octets::{field128, number128, xor};
+use blocks::octets::{Number, xor};
 use blocks::{Block, Refusal};
 
 // One more, the first octet the least.
 fn count(s: [u8; 16]) -> [u8; 16]
     ensures { result ≡ counted s }
 {
-    field128(number128(s).wrapping_add(1))
+    u128::number(&s).wrapping_add(1).field()
 }
 
 // Keeps the count.
@@ -27,17 +27,15 @@ struct Counter {
 }
 
 impl Mode for Counter {
-    ghost least = { 0 };
+    ghost LEAST = { 0 };
+
+    const LEAST: usize = 0;
 
     ghost makes = { λ s m x. glue (streamed (ctr_row m.image) s.at (pieces x)) };
 
     ghost sized = { Prim.search rules };
 
     ghost none = { Prim.search rules };
-
-    fn fewest() -> usize {
-        0
-    }
 
     fn turn<B: Block>(&mut self, block: &mut B, p: [u8; 16]) -> [u8; 16] {
         let s = count(self.at);
@@ -63,25 +61,8 @@ impl Mode for Counter {
     }
 }
 
-// Both ways: the image of the start is what is counted from.
-fn pass<B: Block>(
-    block: &mut B,
-    start: [u8; 16],
-    message: &[u8],
-    out: &mut [u8],
-) -> Result<usize, Refusal>
-    ensures answer { result ≡ mode_answer 0 (length message.now) (length out.old) }
-    ensures text { out.new ≡ written result (ctr (B.meaning block.old).image start message.now) out.old }
-    ensures same { B.meaning block.new ≡ B.meaning block.old }
-{
-    let n = admit(0, message.len(), out.len())?;
-    let at = block.forward(start);
-    run(&mut Counter { at }, block, message, &mut out[0..n]);
-    Ok(n)
-}
-
-// Encrypts a message of at most 65,536 octets.
-pub fn ctr_encrypt<B: Block>(
+// Encrypts and decrypts alike, at most 65,536 octets: the image of the start is what is counted from.
+pub fn ctr<B: Block>(
     block: &mut B,
     start: [u8; 16],
     message: &[u8],
@@ -94,21 +75,6 @@ pub fn ctr_encrypt<B: Block>(
     ensures undone { CtrUndoes }
     ensures apart { CtrApart }
 {
-    pass(block, start, message, out)
-}
-
-// Decrypts a text of at most 65,536 octets.
-pub fn ctr_decrypt<B: Block>(
-    block: &mut B,
-    start: [u8; 16],
-    message: &[u8],
-    out: &mut [u8],
-) -> Result<usize, Refusal>
-    ensures answer { result ≡ mode_answer 0 (length message.now) (length out.old) }
-    ensures text { out.new ≡ written result (ctr (B.meaning block.old).image start message.now) out.old }
-    ensures same { B.meaning block.new ≡ B.meaning block.old }
-    ensures keeps { CtrKeeps }
-    ensures undone { CtrUndoes }
-{
-    pass(block, start, message, out)
+    let at = block.forward(start);
+    apply(&mut Counter { at }, block, message, out)
 }

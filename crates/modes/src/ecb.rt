@@ -1,5 +1,6 @@
 // ECB: each piece on its own.
-ghost use Rattle.std.specs.Prelude.{◌≡◌, length};
+ghost use Rattle.std.specs.Prelude.{◌≡◌, ℕ, List, length};
+ghost use Rattle.blocks.specs.Steps.{Step};
 ghost use Rattle.modes.specs.Modes.{ecb};
 ghost use Rattle.blocks.specs.Written.{written};
 ghost use Rattle.modes.specs.Outcome.{mode_answer};
@@ -7,63 +8,74 @@ ghost use Rattle.modes.specs.Laws.{EcbKeeps, EcbDecryptUndoes, EcbEncryptUndoes,
 ghost use Rattle.std.proofs.Common.{rules};
 
 use crate::machine::{Mode, apply};
-use crate::parts::{filled, load, store_two};
+use crate::parts::{filled, store_two};
 use blocks::{Block, Refusal};
+use std::marker::PhantomData;
+
+// Which way a block is stepped.
+trait Way {
+    // What a step answers, of a block's meaning.
+    ghost way: { Step → List ℕ → List ℕ };
+
+    fn step<B: Block>(block: &mut B, p: [u8; 16]) -> [u8; 16]
+        ensures answer { result ≡ way (B.meaning block.old) p }
+        ensures same { B.meaning block.new ≡ B.meaning block.old };
+
+    fn step_two<B: Block>(block: &mut B, p: [u8; 16], q: [u8; 16]) -> ([u8; 16], [u8; 16])
+        ensures first { result.0 ≡ way (B.meaning block.old) p }
+        ensures second { result.1 ≡ way (B.meaning block.old) q }
+        ensures same { B.meaning block.new ≡ B.meaning block.old };
+}
 
 #[derive(Drop)]
-struct Encryption;
+struct Forward;
 
-impl Mode for Encryption {
-    ghost least = { 16 };
+impl Way for Forward {
+    ghost way = { λ m. m.image };
 
-    ghost makes = { λ s m x. ecb m.image x };
-
-    ghost sized = { Prim.search rules };
-
-    ghost none = { Prim.search rules };
-
-    fn fewest() -> usize {
-        16
-    }
-
-    fn turn<B: Block>(&mut self, block: &mut B, p: [u8; 16]) -> [u8; 16] {
+    fn step<B: Block>(block: &mut B, p: [u8; 16]) -> [u8; 16] {
         block.forward(p)
     }
 
-    fn turn_two<B: Block>(
-        &mut self,
-        block: &mut B,
-        p: [u8; 16],
-        q: [u8; 16],
-    ) -> ([u8; 16], [u8; 16]) {
+    fn step_two<B: Block>(block: &mut B, p: [u8; 16], q: [u8; 16]) -> ([u8; 16], [u8; 16]) {
         block.forward_two(p, q)
-    }
-
-    fn finish<B: Block>(&mut self, block: &mut B, rest: &[u8], out: &mut [u8]) {
-        let c = block.forward(load(rest, 0));
-        let d = block.forward(filled(rest, c));
-        store_two(out, d, c);
     }
 }
 
 #[derive(Drop)]
-struct Decryption;
+struct Backward;
 
-impl Mode for Decryption {
-    ghost least = { 16 };
+impl Way for Backward {
+    ghost way = { λ m. m.preimage };
 
-    ghost makes = { λ s m x. ecb m.preimage x };
+    fn step<B: Block>(block: &mut B, p: [u8; 16]) -> [u8; 16] {
+        block.backward(p)
+    }
+
+    fn step_two<B: Block>(block: &mut B, p: [u8; 16], q: [u8; 16]) -> ([u8; 16], [u8; 16]) {
+        block.backward_two(p, q)
+    }
+}
+
+// Keeps nothing from piece to piece.
+#[derive(Drop)]
+struct Ecb<W> {
+    way: PhantomData<W>,
+}
+
+impl<W: Way> Mode for Ecb<W> {
+    ghost LEAST = { 16 };
+
+    const LEAST: usize = 16;
+
+    ghost makes = { λ s m x. ecb (W.way m) x };
 
     ghost sized = { Prim.search rules };
 
     ghost none = { Prim.search rules };
 
-    fn fewest() -> usize {
-        16
-    }
-
     fn turn<B: Block>(&mut self, block: &mut B, p: [u8; 16]) -> [u8; 16] {
-        block.backward(p)
+        W::step(block, p)
     }
 
     fn turn_two<B: Block>(
@@ -72,12 +84,13 @@ impl Mode for Decryption {
         p: [u8; 16],
         q: [u8; 16],
     ) -> ([u8; 16], [u8; 16]) {
-        block.backward_two(p, q)
+        W::step_two(block, p, q)
     }
 
     fn finish<B: Block>(&mut self, block: &mut B, rest: &[u8], out: &mut [u8]) {
-        let c = block.backward(load(rest, 0));
-        let d = block.backward(filled(rest, c));
+        let (p, q) = rest.split_first_chunk().unwrap();
+        let c = W::step(block, *p);
+        let d = W::step(block, filled(q, c));
         store_two(out, d, c);
     }
 }
@@ -95,7 +108,12 @@ pub fn ecb_encrypt<B: Block>(
     ensures undone { EcbDecryptUndoes }
     ensures apart { EcbApart }
 {
-    apply(&mut Encryption, block, message, out)
+    apply(
+        &mut Ecb::<Forward> { way: PhantomData },
+        block,
+        message,
+        out,
+    )
 }
 
 // Decrypts a text of 16 to 65,536 octets.
@@ -110,5 +128,10 @@ pub fn ecb_decrypt<B: Block>(
     ensures keeps { EcbKeeps }
     ensures undone { EcbEncryptUndoes }
 {
-    apply(&mut Decryption, block, message, out)
+    apply(
+        &mut Ecb::<Backward> { way: PhantomData },
+        block,
+        message,
+        out,
+    )
 }

@@ -4,24 +4,23 @@ ghost use Rattle.blocks.specs.Steps.{Step};
 ghost use Rattle.blocks.specs.Written.{written};
 ghost use Rattle.modes.specs.Outcome.{mode_answer};
 
-use crate::parts::{load, store};
+use crate::parts::{store_two, whole_pieces};
 use blocks::octets::LONGEST;
 use blocks::{Block, Refusal};
 
 // A mode, and what it keeps from piece to piece.
 pub(crate) trait Mode {
     // The fewest octets that it takes.
-    ghost least: { ℕ };
+    ghost LEAST: { ℕ };
+
+    const LEAST: usize;
 
     // What it makes of a text, over a block's meaning.
     ghost makes: { Self → Step → List ℕ → List ℕ };
 
-    fn fewest() -> usize
-        ensures { result ≡ least };
-
     // Takes the next piece of a text, a whole one: what follows is nothing, or again a text that the mode takes.
     fn turn<B: Block>(&mut self, block: &mut B, p: [u8; 16]) -> [u8; 16]
-        ensures answer { (x : List ℕ) → ((x ≡ []) ⊎ (least ≤ length x)) → makes self.old (B.meaning block.old) (p ++ x) ≡ result ++ makes self.new (B.meaning block.old) x }
+        ensures answer { (x : List ℕ) → ((x ≡ []) ⊎ (LEAST ≤ length x)) → makes self.old (B.meaning block.old) (p ++ x) ≡ result ++ makes self.new (B.meaning block.old) x }
         ensures same { B.meaning block.new ≡ B.meaning block.old };
 
     // Takes the next two pieces; a mode whose pieces do not wait for each other writes its own.
@@ -31,7 +30,7 @@ pub(crate) trait Mode {
         p: [u8; 16],
         q: [u8; 16],
     ) -> ([u8; 16], [u8; 16])
-        ensures answer { (x : List ℕ) → ((x ≡ []) ⊎ (least ≤ length x)) → makes self.old (B.meaning block.old) (p ++ (q ++ x)) ≡ result.0 ++ (result.1 ++ makes self.new (B.meaning block.old) x) }
+        ensures answer { (x : List ℕ) → ((x ≡ []) ⊎ (LEAST ≤ length x)) → makes self.old (B.meaning block.old) (p ++ (q ++ x)) ≡ result.0 ++ (result.1 ++ makes self.new (B.meaning block.old) x) }
         ensures same { B.meaning block.new ≡ B.meaning block.old }
     {
         let a = self.turn(block, p);
@@ -41,17 +40,17 @@ pub(crate) trait Mode {
 
     // Takes the end of a text, whose last piece is short.
     fn finish<B: Block>(&mut self, block: &mut B, rest: &[u8], out: &mut [u8])
-        requires { (least < length rest.now) × (length rest.now < least + 16) × (length out.old ≡ length rest.now) }
+        requires { (LEAST < length rest.now) × (length rest.now < LEAST + 16) × (length out.old ≡ length rest.now) }
         ensures text { out.new ≡ makes self.old (B.meaning block.old) rest.now }
         ensures same { B.meaning block.new ≡ B.meaning block.old };
 
-    ghost sized: { (least ≡ 0) ⊎ (least ≡ 16) };
+    ghost sized: { (LEAST ≡ 0) ⊎ (LEAST ≡ 16) };
 
     ghost none: { (s : Self) (m : Step) → makes s m [] ≡ [] };
 }
 
 // The number of octets to write, or the first rule that forbids it.
-pub(crate) fn admit(least: usize, size: usize, room: usize) -> Result<usize, Refusal>
+fn admit(least: usize, size: usize, room: usize) -> Result<usize, Refusal>
     ensures { result ≡ mode_answer least size room }
 {
     if size > LONGEST {
@@ -73,11 +72,11 @@ pub(crate) fn apply<T: Mode, B: Block>(
     message: &[u8],
     out: &mut [u8],
 ) -> Result<usize, Refusal>
-    ensures answer { result ≡ mode_answer T.Mode.least (length message.now) (length out.old) }
+    ensures answer { result ≡ mode_answer T.Mode.LEAST (length message.now) (length out.old) }
     ensures text { out.new ≡ written result (T.Mode.makes mode.old (B.meaning block.old) message.now) out.old }
     ensures same { B.meaning block.new ≡ B.meaning block.old }
 {
-    let n = admit(T::fewest(), message.len(), out.len())?;
+    let n = admit(T::LEAST, message.len(), out.len())?;
     run(mode, block, message, &mut out[0..n]);
     Ok(n)
 }
@@ -97,40 +96,32 @@ fn whole(n: usize, least: usize) -> usize
 }
 
 // Puts a text that a mode takes through it, into an output of the same length.
-pub(crate) fn run<T: Mode, B: Block>(mode: &mut T, block: &mut B, text: &[u8], out: &mut [u8])
-    requires { (T.Mode.least ≤ length text.now) × (length out.old ≡ length text.now) }
+fn run<T: Mode, B: Block>(mode: &mut T, block: &mut B, text: &[u8], out: &mut [u8])
+    requires { (T.Mode.LEAST ≤ length text.now) × (length out.old ≡ length text.now) }
     ensures text { out.new ≡ T.Mode.makes mode.old (B.meaning block.old) text.now }
     ensures same { B.meaning block.new ≡ B.meaning block.old }
 {
-    let n = text.len();
-    let end = whole(n, T::fewest());
-    run_whole(mode, block, text, end, out);
-    if end < n {
-        mode.finish(block, &text[end..n], &mut out[end..n]);
+    let end = whole(text.len(), T::LEAST);
+    let (front, rest) = text.split_at(end);
+    run_whole(mode, block, front, &mut out[..end]);
+    if rest.len() > 0 {
+        mode.finish(block, rest, &mut out[end..]);
     }
 }
 
-// Puts the whole pieces of a text before `end` through a mode, two at a time.
-fn run_whole<T: Mode, B: Block>(
-    mode: &mut T,
-    block: &mut B,
-    text: &[u8],
-    end: usize,
-    out: &mut [u8],
-)
-    requires { (end % 16 ≡ 0) × (end ≤ length text.now) × ((end ≡ length text.now) ⊎ (T.Mode.least ≤ length text.now - end)) × (length out.old ≡ length text.now) }
-    ensures text { take end out.new ++ T.Mode.makes mode.new (B.meaning block.old) (drop end text.now) ≡ T.Mode.makes mode.old (B.meaning block.old) text.now }
+// Puts whole pieces through a mode, two at a time: what follows them is nothing, or again a text that the mode takes.
+fn run_whole<T: Mode, B: Block>(mode: &mut T, block: &mut B, text: &[u8], out: &mut [u8])
+    requires { (length text.now % 16 ≡ 0) × (length out.old ≡ length text.now) }
+    ensures text { (x : List ℕ) → ((x ≡ []) ⊎ (T.Mode.LEAST ≤ length x)) → T.Mode.makes mode.old (B.meaning block.old) (text.now ++ x) ≡ out.new ++ T.Mode.makes mode.new (B.meaning block.old) x }
     ensures same { B.meaning block.new ≡ B.meaning block.old }
 {
-    let mut at = 0;
-    while end - at >= 32 {
-        let (c, d) = mode.turn_two(block, load(text, at), load(text, at + 16));
-        store(out, at, c);
-        store(out, at + 16, d);
-        at += 32;
+    let (pairs, odd) = whole_pieces(text).as_chunks::<2>();
+    for (i, [p, q]) in pairs.iter().enumerate() {
+        let (c, d) = mode.turn_two(block, *p, *q);
+        store_two(&mut out[32 * i..32 * i + 32], c, d);
     }
-    if at < end {
-        let c = mode.turn(block, load(text, at));
-        store(out, at, c);
+    if let [p] = odd {
+        let c = mode.turn(block, *p);
+        out[32 * pairs.len()..].copy_from_slice(&c);
     }
 }

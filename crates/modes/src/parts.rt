@@ -1,41 +1,23 @@
 // Blocks in and out of texts.
-ghost use Rattle.std.specs.Prelude.{◌≡◌, ◌+◌, ◌-◌, ◌≤◌, ◌++◌, length, take, drop};
+ghost use Rattle.std.specs.Prelude.{◌≡◌, ◌+◌, ◌-◌, ◌/◌, ◌≤◌, ◌++◌, length, take, drop};
 ghost use Rattle.blocks.specs.Octets.{xor_each};
+ghost use Rattle.modes.specs.Pieces.{cut};
 
-// The sixteen octets of `text` from `at` on.
-pub(crate) fn load(text: &[u8], at: usize) -> [u8; 16]
-    requires { at + 16 ≤ length text.now }
-    ensures { result ≡ take 16 (drop at text.now) }
+// The whole pieces that `text` begins with.
+pub(crate) fn whole_pieces(text: &[u8]) -> &[[u8; 16]]
+    ensures pieces { result.now ≡ cut (length text.now / 16) text.now }
+    ensures count { length result.now ≡ length text.now / 16 }
 {
-    let mut r = [0; 16];
-    r.copy_from_slice(&text[at..at + 16]);
-    r
+    text.as_chunks().0
 }
 
-// Writes `block` over the sixteen octets of `out` from `at` on.
-pub(crate) fn store(out: &mut [u8], at: usize, block: [u8; 16])
-    requires { at + 16 ≤ length out.old }
-    ensures { out.new ≡ take at out.old ++ (block ++ drop (at + 16) out.old) }
-{
-    out[at..at + 16].copy_from_slice(&block);
-}
-
-// Writes the first `n` octets of `block` over those of `out` from `at` on.
-pub(crate) fn store_part(out: &mut [u8], at: usize, block: [u8; 16], n: usize)
-    requires { (n ≤ 16) × (at + n ≤ length out.old) }
-    ensures { out.new ≡ take at out.old ++ (take n block ++ drop (at + n) out.old) }
-{
-    out[at..at + n].copy_from_slice(&block[0..n]);
-}
-
-// The short piece that `text` ends with past its first sixteen octets, filled up with the last octets of `base`.
-pub(crate) fn filled(text: &[u8], base: [u8; 16]) -> [u8; 16]
-    requires { (16 ≤ length text.now) × (length text.now ≤ 32) }
-    ensures { result ≡ drop 16 text.now ++ drop (length text.now - 16) base }
+// The short piece q, filled up with the last octets of `base`.
+pub(crate) fn filled(q: &[u8], base: [u8; 16]) -> [u8; 16]
+    requires { length q.now ≤ 16 }
+    ensures { result ≡ q.now ++ drop (length q.now) base }
 {
     let mut r = base;
-    let n = text.len() - 16;
-    r[0..n].copy_from_slice(&text[16..16 + n]);
+    r[..q.len()].copy_from_slice(q);
     r
 }
 
@@ -44,9 +26,9 @@ pub(crate) fn store_two(out: &mut [u8], full: [u8; 16], last: [u8; 16])
     requires { (16 ≤ length out.old) × (length out.old ≤ 32) }
     ensures { out.new ≡ full ++ take (length out.old - 16) last }
 {
-    let n = out.len() - 16;
-    store(out, 0, full);
-    store_part(out, 16, last, n);
+    let (front, back) = out.split_at_mut(16);
+    front.copy_from_slice(&full);
+    back.copy_from_slice(&last[..back.len()]);
 }
 
 // Mixes the octets of `text`, at most sixteen, with the first ones of `key`.
@@ -54,7 +36,7 @@ pub(crate) fn mix(text: &[u8], key: [u8; 16], out: &mut [u8])
     requires { (length text.now ≤ 16) × (length out.old ≡ length text.now) }
     ensures { out.new ≡ xor_each text.now key }
 {
-    for j in 0..text.len() {
-        out[j] = text[j] ^ key[j];
+    for (j, x) in text.iter().enumerate() {
+        out[j] = x ^ key[j];
     }
 }

@@ -6,9 +6,9 @@ ghost use Rattle.modes.specs.Wrapping.{mixed_all, wrap_step, unwrap_step, wrap_s
 ghost use Rattle.modes.specs.WrapAnswers.{wrap_answer, unwrap_answer, Within};
 ghost use Rattle.modes.specs.WrapExact.{UnwrapsExactly, WrapExact};
 
-use crate::parts::{load, store};
+use crate::parts::whole_pieces;
 use crate::scratch::Wipe;
-use blocks::octets::{field128, xor};
+use blocks::octets::{Number, xor};
 use blocks::{Block, Refusal};
 
 // Octets of scratch that unwrapping works in: the longest wrapped text.
@@ -19,11 +19,10 @@ fn mix(text: &[u8]) -> [u8; 16]
     requires { 16 ≤ length text.now }
     ensures { result ≡ mixed_all text.now }
 {
-    let n = (text.len() - 1) / 16;
     let mut s = [0; 16];
-    for j in 0..n {
-        let t = xor(s, load(text, j * 16));
-        s = t;
+    for p in whole_pieces(&text[..text.len() - 1]) {
+        let next = xor(s, *p);
+        s = next;
     }
     s
 }
@@ -32,11 +31,7 @@ fn mix(text: &[u8]) -> [u8; 16]
 fn agree(a: [u8; 16], b: [u8; 16]) -> bool
     ensures { Decides result (a ≡ b) }
 {
-    let mut d = 0;
-    for j in 0..16 {
-        d |= a[j] ^ b[j];
-    }
-    d == 0
+    xor(a, b).iter().fold(0, |d, x| d | x) == 0
 }
 
 // Step i of the wrapping, in place.
@@ -45,12 +40,11 @@ fn wrap_step<B: Block>(block: &mut B, text: &mut [u8], i: usize)
     ensures text { text.new ≡ wrap_step (B.meaning block.old).image i text.old }
     ensures same { B.meaning block.new ≡ B.meaning block.old }
 {
-    let at = text.len() - 16;
     let s = mix(text);
-    let last = xor(load(text, at), xor(block.forward(s), field128(i as u128)));
-    store(text, at, last);
+    let last = text.last_chunk_mut().unwrap();
+    *last = xor(*last, xor(block.forward(s), (i as u128).field()));
     text.rotate_left(16);
-    store(text, at, s);
+    *text.last_chunk_mut().unwrap() = s;
 }
 
 // Step i of the unwrapping, in place.
@@ -59,13 +53,20 @@ fn unwrap_step<B: Block>(block: &mut B, text: &mut [u8], i: usize)
     ensures text { text.new ≡ unwrap_step (B.meaning block.old).image i text.old }
     ensures same { B.meaning block.new ≡ B.meaning block.old }
 {
-    let at = text.len() - 16;
-    let s = load(text, at);
     text.rotate_right(16);
-    let last = xor(load(text, at), xor(block.forward(s), field128(i as u128)));
-    store(text, at, last);
+    let s = *text.first_chunk().unwrap();
+    let last = text.last_chunk_mut().unwrap();
+    *last = xor(*last, xor(block.forward(s), (i as u128).field()));
     let first = mix(text);
-    store(text, 0, first);
+    *text.first_chunk_mut().unwrap() = first;
+}
+
+// The number of steps on a text of n octets.
+fn rounds(n: usize) -> usize
+    requires { n ≤ 272 }
+    ensures { result ≡ rounds n }
+{
+    2 * n.div_ceil(16)
 }
 
 // All the steps of the wrapping, in place.
@@ -74,9 +75,8 @@ fn wrap_steps<B: Block>(block: &mut B, text: &mut [u8])
     ensures text { text.new ≡ wrap_steps (B.meaning block.old).image (rounds (length text.old)) text.old }
     ensures same { B.meaning block.new ≡ B.meaning block.old }
 {
-    let n = 2 * ((text.len() + 15) / 16);
-    for i in 0..n {
-        wrap_step(block, text, i + 1);
+    for i in 1..=rounds(text.len()) {
+        wrap_step(block, text, i);
     }
 }
 
@@ -86,9 +86,8 @@ fn unwrap_steps<B: Block>(block: &mut B, text: &mut [u8])
     ensures text { text.new ≡ unwrap_steps (B.meaning block.old).image (rounds (length text.old)) text.old }
     ensures same { B.meaning block.new ≡ B.meaning block.old }
 {
-    let n = 2 * ((text.len() + 15) / 16);
-    for i in (0..n).rev() {
-        unwrap_step(block, text, i + 1);
+    for i in (1..=rounds(text.len())).rev() {
+        unwrap_step(block, text, i);
     }
 }
 
@@ -104,7 +103,7 @@ pub fn wrap<B: Block>(
     ensures same { B.meaning block.new ≡ B.meaning block.old }
 {
     let length = key_text.len();
-    if length < 16 || length > 256 {
+    if !(16..=256).contains(&length) {
         return Err(Refusal::KeyTextLength);
     }
     let size = length + 16;
@@ -112,8 +111,8 @@ pub fn wrap<B: Block>(
         return Err(Refusal::ShortOutput);
     }
     let text = &mut out[0..size];
-    text[0..length].copy_from_slice(key_text);
-    store(text, length, header);
+    text[..length].copy_from_slice(key_text);
+    text[length..].copy_from_slice(&header);
     wrap_steps(block, text);
     Ok(size)
 }
@@ -167,7 +166,7 @@ pub fn unwrap_within<B: Block>(
     ensures same { B.meaning block.new ≡ B.meaning block.old }
 {
     let size = text.len();
-    if size < 32 || size > SCRATCH {
+    if !(32..=SCRATCH).contains(&size) {
         return Err(Refusal::WrappedLength);
     }
     let length = size - 16;
@@ -177,7 +176,7 @@ pub fn unwrap_within<B: Block>(
     let work = &mut scratch[0..size];
     work.copy_from_slice(text);
     unwrap_steps(block, work);
-    if !agree(load(work, length), header) {
+    if !agree(*work.last_chunk().unwrap(), header) {
         return Err(Refusal::HeaderDiffers);
     }
     Ok(length)

@@ -17,7 +17,7 @@ abbrev pub under : List ℕ → Step
 under key = belt (key_words (expanded key))
 
 -- Sixteen octets as two numbers: the first for octets 0 to 7, each least octet first.
-abbrev pub sixteen : ℕ → ℕ → List ℕ
+unfoldable pub sixteen : ℕ → ℕ → List ℕ
 sixteen first second = field 8 first ++ field 8 second
 
 -- A call that writes `size` octets about a message of `n`, into an output of `room`.

@@ -1,11 +1,11 @@
 // The face for the radio firmware: C functions on numbers and octets over the BelT block. Each answers the refusal's number, or zero.
-// A slice is a pointer and a length in C. The crate radio_c, a static library, exports them under the same names, since a library of
-// this language exports nothing; include/muchqawi.h says what each function takes and the caller's duties.
+// A slice is a pointer and a length in C. The crate is a static library, which exports them under their names; include/muchqawi.h says
+// what each function takes and the caller's duties.
 #![tactic(auto)]
 
-ghost use Rattle.std.specs.Prelude.{◌≡◌, ℕ, ◌-◌, ◌++◌, length, take, replicate, if◌then◌else◌, Ok, Err, nat_le};
+ghost use Rattle.std.specs.Prelude.{◌≡◌, ℕ, ◌-◌, List, length, take, replicate, if◌then◌else◌, Ok, Err, Result, nat_le};
+ghost use Rattle.blocks.specs.declared.answers.Refusal.{Refusal};
 ghost use Rattle.blocks.specs.declared.answers.Refusal.TheVariants.{ShortOutput};
-ghost use Rattle.blocks.specs.Answers.{answer_number};
 ghost use Rattle.blocks.specs.Written.{written};
 ghost use Rattle.belt.specs.Hash.{hash_of};
 ghost use Rattle.modes.specs.Outcome.{mode_answer};
@@ -15,27 +15,31 @@ ghost use Rattle.modes.specs.Wrapping.{wrapped, unwrapped};
 ghost use Rattle.modes.specs.WrapAnswers.{wrap_answer, unwrap_answer};
 ghost use Rattle.rounds.specs.Tags.{issued, issue_answer};
 ghost use Rattle.radio.specs.Keyed.{keyed, under, sixteen, digest_answer};
+ghost use Rattle.radio.specs.Told.{Told, Gives};
 
 use belt::BeltBlock;
 use belt::hash::hash;
 use blocks::answers::answer_number;
-use blocks::octets::field64;
+use blocks::octets::Number;
 use blocks::{Block, Refusal};
 use modes::cbc::{cbc_decrypt, cbc_encrypt};
 use modes::cfb::{cfb_decrypt, cfb_encrypt};
-use modes::checksum::checksum as checksum_of;
-use modes::ctr::{ctr_decrypt, ctr_encrypt};
+use modes::checksum::checksum;
+use modes::ctr::ctr;
 use modes::ecb::{ecb_decrypt, ecb_encrypt};
+use modes::scratch::Wipe;
 use modes::wrap::{unwrap, wrap};
 use rounds::tag::issue;
 
 // A start or a header from its two numbers.
+#[tactic(auto, unfolding(crate::specs::Keyed::sixteen))]
 fn octets(first: u64, second: u64) -> [u8; 16]
     ensures { result ≡ sixteen first second }
 {
-    let [a, b, c, d, e, f, g, h] = field64(first);
-    let [i, j, k, l, m, n, o, p] = field64(second);
-    [a, b, c, d, e, f, g, h, i, j, k, l, m, n, o, p]
+    let mut start = [0; 16];
+    start[..8].copy_from_slice(&first.field());
+    start[8..].copy_from_slice(&second.field());
+    start
 }
 
 // Writes a digest to the front of an output.
@@ -47,7 +51,7 @@ fn put(digest: &[u8], out: &mut [u8]) -> Result<usize, Refusal>
     if out.len() < n {
         return Err(Refusal::ShortOutput);
     }
-    out[0..n].copy_from_slice(digest);
+    out[..n].copy_from_slice(digest);
     Ok(n)
 }
 
@@ -56,8 +60,31 @@ fn put_checksum<B: Block>(block: &mut B, message: &[u8], out: &mut [u8]) -> Resu
     ensures answer { result ≡ digest_answer 8 (length message.now) (length out.old) }
     ensures text { out.new ≡ written result (checksum (B.meaning block.old).image message.now) out.old }
 {
-    let sum = checksum_of(block, message)?;
-    put(&sum, out)
+    put(&checksum(block, message)?, out)
+}
+
+// Writes the hash of a message to the front of an output.
+fn put_hash(message: &[u8], out: &mut [u8]) -> Result<usize, Refusal>
+    ensures answer { result ≡ digest_answer 32 (length message.now) (length out.old) }
+    ensures text { out.new ≡ written result (hash_of message.now) out.old }
+{
+    put(&hash(message)?, out)
+}
+
+// Runs a call with the block of a key on an output, and says its answer by its number. Where the key makes no block, nothing runs.
+fn under_key<F: FnOnce(&mut BeltBlock, &mut [u8]) -> Result<usize, Refusal>>(
+    key: &[u8],
+    out: &mut [u8],
+    call: F,
+) -> u8
+    requires { F.IsAlwaysCallable call }
+    ensures { (answer : Result ℕ Refusal) (text : List ℕ) → Gives F.FnOnce call key.now out.old answer text → Told (keyed key.now answer) text out.old result out.new }
+{
+    // No `and_then`: its closure would borrow the output, and of what an uncalled closure borrowed nothing is known.
+    match BeltBlock::new(key) {
+        Ok(mut block) => answer_number(&call(&mut block, out)),
+        Err(refusal) => refusal.number(),
+    }
 }
 
 // Writes a tag text.
@@ -69,37 +96,27 @@ pub extern "C" fn muchqawi_issue(
     serial: u32,
     out: &mut [u8],
 ) -> u8
-    ensures answer { result ≡ answer_number (keyed key.now (issue_answer site checkpoint (length out.old))) }
-    ensures text { out.new ≡ written (keyed key.now (issue_answer site checkpoint (length out.old))) (issued (under key.now).image site checkpoint serial) out.old }
+    ensures { Told (keyed key.now (issue_answer site checkpoint (length out.old))) (issued (under key.now).image site checkpoint serial) out.old result out.new }
 {
-    match BeltBlock::new(key) {
-        Ok(mut block) => answer_number(&issue(&mut block, site, checkpoint, serial, out)),
-        Err(refusal) => refusal.number(),
-    }
+    under_key(key, out, |block, out| {
+        issue(block, site, checkpoint, serial, out)
+    })
 }
 
 // Encrypts by ECB.
 #[unsafe(no_mangle)]
 pub extern "C" fn muchqawi_ecb_encrypt(key: &[u8], message: &[u8], out: &mut [u8]) -> u8
-    ensures answer { result ≡ answer_number (keyed key.now (mode_answer 16 (length message.now) (length out.old))) }
-    ensures text { out.new ≡ written (keyed key.now (mode_answer 16 (length message.now) (length out.old))) (ecb (under key.now).image message.now) out.old }
+    ensures { Told (keyed key.now (mode_answer 16 (length message.now) (length out.old))) (ecb (under key.now).image message.now) out.old result out.new }
 {
-    match BeltBlock::new(key) {
-        Ok(mut block) => answer_number(&ecb_encrypt(&mut block, message, out)),
-        Err(refusal) => refusal.number(),
-    }
+    under_key(key, out, |block, out| ecb_encrypt(block, message, out))
 }
 
 // Decrypts by ECB.
 #[unsafe(no_mangle)]
 pub extern "C" fn muchqawi_ecb_decrypt(key: &[u8], message: &[u8], out: &mut [u8]) -> u8
-    ensures answer { result ≡ answer_number (keyed key.now (mode_answer 16 (length message.now) (length out.old))) }
-    ensures text { out.new ≡ written (keyed key.now (mode_answer 16 (length message.now) (length out.old))) (ecb (under key.now).preimage message.now) out.old }
+    ensures { Told (keyed key.now (mode_answer 16 (length message.now) (length out.old))) (ecb (under key.now).preimage message.now) out.old result out.new }
 {
-    match BeltBlock::new(key) {
-        Ok(mut block) => answer_number(&ecb_decrypt(&mut block, message, out)),
-        Err(refusal) => refusal.number(),
-    }
+    under_key(key, out, |block, out| ecb_decrypt(block, message, out))
 }
 
 // Encrypts by CBC.
@@ -111,16 +128,11 @@ pub extern "C" fn muchqawi_cbc_encrypt(
     message: &[u8],
     out: &mut [u8],
 ) -> u8
-    ensures answer { result ≡ answer_number (keyed key.now (mode_answer 16 (length message.now) (length out.old))) }
-    ensures text { out.new ≡ written (keyed key.now (mode_answer 16 (length message.now) (length out.old))) (cbc_encrypt (under key.now).image (sixteen first second) message.now) out.old }
+    ensures { Told (keyed key.now (mode_answer 16 (length message.now) (length out.old))) (cbc_encrypt (under key.now).image (sixteen first second) message.now) out.old result out.new }
 {
-    match BeltBlock::new(key) {
-        Ok(mut block) => {
-            let answer = cbc_encrypt(&mut block, octets(first, second), message, out);
-            answer_number(&answer)
-        },
-        Err(refusal) => refusal.number(),
-    }
+    under_key(key, out, |block, out| {
+        cbc_encrypt(block, octets(first, second), message, out)
+    })
 }
 
 // Decrypts by CBC.
@@ -132,16 +144,11 @@ pub extern "C" fn muchqawi_cbc_decrypt(
     message: &[u8],
     out: &mut [u8],
 ) -> u8
-    ensures answer { result ≡ answer_number (keyed key.now (mode_answer 16 (length message.now) (length out.old))) }
-    ensures text { out.new ≡ written (keyed key.now (mode_answer 16 (length message.now) (length out.old))) (cbc_decrypt (under key.now).preimage (sixteen first second) message.now) out.old }
+    ensures { Told (keyed key.now (mode_answer 16 (length message.now) (length out.old))) (cbc_decrypt (under key.now).preimage (sixteen first second) message.now) out.old result out.new }
 {
-    match BeltBlock::new(key) {
-        Ok(mut block) => {
-            let answer = cbc_decrypt(&mut block, octets(first, second), message, out);
-            answer_number(&answer)
-        },
-        Err(refusal) => refusal.number(),
-    }
+    under_key(key, out, |block, out| {
+        cbc_decrypt(block, octets(first, second), message, out)
+    })
 }
 
 // Encrypts by CFB.
@@ -153,16 +160,11 @@ pub extern "C" fn muchqawi_cfb_encrypt(
     message: &[u8],
     out: &mut [u8],
 ) -> u8
-    ensures answer { result ≡ answer_number (keyed key.now (mode_answer 0 (length message.now) (length out.old))) }
-    ensures text { out.new ≡ written (keyed key.now (mode_answer 0 (length message.now) (length out.old))) (cfb_encrypt (under key.now).image (sixteen first second) message.now) out.old }
+    ensures { Told (keyed key.now (mode_answer 0 (length message.now) (length out.old))) (cfb_encrypt (under key.now).image (sixteen first second) message.now) out.old result out.new }
 {
-    match BeltBlock::new(key) {
-        Ok(mut block) => {
-            let answer = cfb_encrypt(&mut block, octets(first, second), message, out);
-            answer_number(&answer)
-        },
-        Err(refusal) => refusal.number(),
-    }
+    under_key(key, out, |block, out| {
+        cfb_encrypt(block, octets(first, second), message, out)
+    })
 }
 
 // Decrypts by CFB.
@@ -174,16 +176,11 @@ pub extern "C" fn muchqawi_cfb_decrypt(
     message: &[u8],
     out: &mut [u8],
 ) -> u8
-    ensures answer { result ≡ answer_number (keyed key.now (mode_answer 0 (length message.now) (length out.old))) }
-    ensures text { out.new ≡ written (keyed key.now (mode_answer 0 (length message.now) (length out.old))) (cfb_decrypt (under key.now).image (sixteen first second) message.now) out.old }
+    ensures { Told (keyed key.now (mode_answer 0 (length message.now) (length out.old))) (cfb_decrypt (under key.now).image (sixteen first second) message.now) out.old result out.new }
 {
-    match BeltBlock::new(key) {
-        Ok(mut block) => {
-            let answer = cfb_decrypt(&mut block, octets(first, second), message, out);
-            answer_number(&answer)
-        },
-        Err(refusal) => refusal.number(),
-    }
+    under_key(key, out, |block, out| {
+        cfb_decrypt(block, octets(first, second), message, out)
+    })
 }
 
 // Encrypts by CTR.
@@ -195,19 +192,14 @@ pub extern "C" fn muchqawi_ctr_encrypt(
     message: &[u8],
     out: &mut [u8],
 ) -> u8
-    ensures answer { result ≡ answer_number (keyed key.now (mode_answer 0 (length message.now) (length out.old))) }
-    ensures text { out.new ≡ written (keyed key.now (mode_answer 0 (length message.now) (length out.old))) (ctr (under key.now).image (sixteen first second) message.now) out.old }
+    ensures { Told (keyed key.now (mode_answer 0 (length message.now) (length out.old))) (ctr (under key.now).image (sixteen first second) message.now) out.old result out.new }
 {
-    match BeltBlock::new(key) {
-        Ok(mut block) => {
-            let answer = ctr_encrypt(&mut block, octets(first, second), message, out);
-            answer_number(&answer)
-        },
-        Err(refusal) => refusal.number(),
-    }
+    under_key(key, out, |block, out| {
+        ctr(block, octets(first, second), message, out)
+    })
 }
 
-// Decrypts by CTR.
+// Decrypts by CTR: the same as encrypting.
 #[unsafe(no_mangle)]
 pub extern "C" fn muchqawi_ctr_decrypt(
     key: &[u8],
@@ -216,16 +208,9 @@ pub extern "C" fn muchqawi_ctr_decrypt(
     message: &[u8],
     out: &mut [u8],
 ) -> u8
-    ensures answer { result ≡ answer_number (keyed key.now (mode_answer 0 (length message.now) (length out.old))) }
-    ensures text { out.new ≡ written (keyed key.now (mode_answer 0 (length message.now) (length out.old))) (ctr (under key.now).image (sixteen first second) message.now) out.old }
+    ensures { Told (keyed key.now (mode_answer 0 (length message.now) (length out.old))) (ctr (under key.now).image (sixteen first second) message.now) out.old result out.new }
 {
-    match BeltBlock::new(key) {
-        Ok(mut block) => {
-            let answer = ctr_decrypt(&mut block, octets(first, second), message, out);
-            answer_number(&answer)
-        },
-        Err(refusal) => refusal.number(),
-    }
+    muchqawi_ctr_encrypt(key, first, second, message, out)
 }
 
 // Wraps a key text under a header.
@@ -237,13 +222,11 @@ pub extern "C" fn muchqawi_wrap(
     text: &[u8],
     out: &mut [u8],
 ) -> u8
-    ensures answer { result ≡ answer_number (keyed key.now (wrap_answer (length text.now) (length out.old))) }
-    ensures text { out.new ≡ written (keyed key.now (wrap_answer (length text.now) (length out.old))) (wrapped (under key.now).image (sixteen first second) text.now) out.old }
+    ensures { Told (keyed key.now (wrap_answer (length text.now) (length out.old))) (wrapped (under key.now).image (sixteen first second) text.now) out.old result out.new }
 {
-    match BeltBlock::new(key) {
-        Ok(mut block) => answer_number(&wrap(&mut block, octets(first, second), text, out)),
-        Err(refusal) => refusal.number(),
-    }
+    under_key(key, out, |block, out| {
+        wrap(block, octets(first, second), text, out)
+    })
 }
 
 // Unwraps a text; the scratch, 272 octets or more, ends as zeros on every way out.
@@ -256,42 +239,27 @@ pub extern "C" fn muchqawi_unwrap(
     scratch: &mut [u8],
     out: &mut [u8],
 ) -> u8
-    ensures answer { result ≡ answer_number (keyed key.now (unwrap_answer (under key.now).image (sixteen first second) text.now (length scratch.old) (length out.old))) }
-    ensures text { out.new ≡ written (keyed key.now (unwrap_answer (under key.now).image (sixteen first second) text.now (length scratch.old) (length out.old))) (take (length text.now - 16) (unwrapped (under key.now).image text.now)) out.old }
+    ensures told { Told (keyed key.now (unwrap_answer (under key.now).image (sixteen first second) text.now (length scratch.old) (length out.old))) (take (length text.now - 16) (unwrapped (under key.now).image text.now)) out.old result out.new }
     ensures wiped { scratch.new ≡ replicate (length scratch.old) 0 }
 {
-    match BeltBlock::new(key) {
-        Ok(mut block) => {
-            let answer = unwrap(&mut block, octets(first, second), text, scratch, out);
-            answer_number(&answer)
-        },
-        Err(refusal) => {
-            scratch.fill(0);
-            refusal.number()
-        },
-    }
+    let guard = Wipe { scratch };
+    under_key(key, out, |block, out| {
+        unwrap(block, octets(first, second), text, guard.scratch, out)
+    })
 }
 
 // Writes the checksum of a message, 8 octets.
 #[unsafe(no_mangle)]
 pub extern "C" fn muchqawi_checksum(key: &[u8], message: &[u8], out: &mut [u8]) -> u8
-    ensures answer { result ≡ answer_number (keyed key.now (digest_answer 8 (length message.now) (length out.old))) }
-    ensures text { out.new ≡ written (keyed key.now (digest_answer 8 (length message.now) (length out.old))) (checksum (under key.now).image message.now) out.old }
+    ensures { Told (keyed key.now (digest_answer 8 (length message.now) (length out.old))) (checksum (under key.now).image message.now) out.old result out.new }
 {
-    match BeltBlock::new(key) {
-        Ok(mut block) => answer_number(&put_checksum(&mut block, message, out)),
-        Err(refusal) => refusal.number(),
-    }
+    under_key(key, out, |block, out| put_checksum(block, message, out))
 }
 
 // Writes the hash of a message, 32 octets.
 #[unsafe(no_mangle)]
 pub extern "C" fn muchqawi_hash(message: &[u8], out: &mut [u8]) -> u8
-    ensures answer { result ≡ answer_number (digest_answer 32 (length message.now) (length out.old)) }
-    ensures text { out.new ≡ written (digest_answer 32 (length message.now) (length out.old)) (hash_of message.now) out.old }
+    ensures { Told (digest_answer 32 (length message.now) (length out.old)) (hash_of message.now) out.old result out.new }
 {
-    match hash(message) {
-        Ok(digest) => answer_number(&put(&digest, out)),
-        Err(refusal) => refusal.number(),
-    }
+    answer_number(&put_hash(message, out))
 }

@@ -41,8 +41,8 @@ module _ (s : Sealer) (law : LawfulSealer s) where
 accepts : (n room : ℕ) → 16 ≤ n → n ≤ 65536 → n ≤ room → mode_answer 16 n room ≡ Ok n
 accepts n room a b c = grind (arith, nat_tests)
 
-pub all-written : (r : Result ℕ Refusal) (n : ℕ) (text out new : List ℕ) → r ≡ mode_answer 16 n (length out) → 16 ≤ n → n ≤ 65536 → length out ≡ n
+pub all_written : (r : Result ℕ Refusal) (n : ℕ) (text out new : List ℕ) → r ≡ mode_answer 16 n (length out) → 16 ≤ n → n ≤ 65536 → length out ≡ n
     → new ≡ written r text out → new ≡ text
-all-written r n text out new is a b l e =
+all_written r n text out new is a b l e =
     e ∙ ap (λ (q : Result ℕ Refusal). written q text out) (is ∙ accepts n (length out) a b (omega arith))
     ∙ ap (λ z. text ++ z) (drop_all n out (omega arith)) ∙ append-nil text

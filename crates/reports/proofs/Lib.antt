@@ -1,7 +1,7 @@
 pub mod FieldsAt
-pub mod Writes
 pub mod Bodies
 pub mod Rules
+pub mod Pieces
 pub mod Turns
 pub mod Sealable
 pub mod Ciphers

@@ -1,5 +1,5 @@
 -- Opening accepts exactly the texts that sealing makes of lawful reports, and answers the report.
-use Rattle.std.proofs.Common.{◌≡◌, ℕ, ◌-◌, ◌≤◌, false, eqb, leb, List, ◌++◌, length, take, drop, Ok, Err, sym, refl, ap, ◌∙◌, subst, ap₂, inl, inr, arith}
+use Rattle.std.proofs.Common.{◌≡◌, ℕ, ◌-◌, ◌≤◌, true, false, eqb, leb, List, ◌++◌, length, take, drop, Ok, Err, sym, refl, ap, ◌∙◌, subst, ap₂, inl, inr, arith}
 use Rattle.std.proofs.lemmas.Slice.Eq.{bytes_eq-Decides}
 use Rattle.std.proofs.lemmas.List.{length-append, length-drop, length-take-le, take-append-drop, take-append-le, take-take, take_at, drop_at}
 use Rattle.std.proofs.lemmas.Bool.{and_parts, and_from, leb-true, eqb-true, le-leb, eq-eqb}
@@ -63,6 +63,31 @@ opens-sealed c law free r h room =
     (past _ _ _ (rule-kept _ (in_book TooFewCells free) (le-leb (count_of (length t)) free (omega arith)))
     (ap Ok (ap₂ report_at vi body ∙ report-there r h))))))
 
+-- A text of the right length, in its parts.
+count-is : (n : ℕ) → sized n ≡ true → (n ≡ text_size (count_of n)) × (count_of n ≤ most_visits)
+count-is n e =
+    let p = and_parts (eqb n (text_size (count_of n))) (leb (count_of n) most_visits) e in
+    (eqb-true n (text_size (count_of n)) p.0, leb-true (count_of n) most_visits p.1)
+
+mixed-size : (t : List ℕ) → sized (length t) ≡ true → length (drop start_size (front_part t)) ≡ body_size (count_of (length t))
+mixed-size t e =
+    let n = (count-is (length t) e).0 in
+    let l : length (front_part t) ≡ length t - sum_size = length-take-le (length t - sum_size) t (omega arith) in
+    omega (arith, length-drop start_size (front_part t))
+
+mixable : (t : List ℕ) → Octets t → sized (length t) ≡ true → Mixable (take start_size t) (drop start_size (front_part t))
+mixable t o e =
+    let n = (count-is (length t) e).0 in
+    let l = mixed-size t e in
+    record {
+      from = (length-take-le start_size t (omega arith), octets-take start_size t o);
+      long = omega arith;
+      octets = octets-drop start_size (front_part t) (octets-take (length t - sum_size) t o);
+    }
+
+pub body-size : (c : Sealer) → LawfulSealer c → (t : List ℕ) → Octets t → sized (length t) ≡ true → length (body_in c t) ≡ body_size (count_of (length t))
+body-size c law t o e = (back c law (take start_size t) (drop start_size (front_part t)) (mixable t o e)).0 ∙ mixed-size t e
+
 -- What opens is the sealed text of a lawful report.
 pub opened-is-sealed : (c : Sealer) → LawfulSealer c → (free : ℕ) (t : List ℕ) → Octets t → (r : Report) → open_answer c free t ≡ Ok r → Sealed c free t r
 unfolding open_answer sealed
@@ -79,19 +104,14 @@ opened-is-sealed c law free t o r e =
     let e4 = passed (start_fault c t) _ r e3.1 in
     let e5 = passed (rule (leb v free) (in_book TooFewCells free)) (Ok (report_at v x)) r e4.1 in
     let is : report_at v x ≡ r = cc e5.1 in
-    let p = and_parts (eqb n (text_size v)) (leb v most_visits) (kept_rule (sized n) (in_text ReportLength 0) e1.0) in
-    let nl : n ≡ text_size v = eqb-true n (text_size v) p.0 in
-    let few : v ≤ most_visits = leb-true v most_visits p.1 in
+    let sized-is : sized n ≡ true = kept_rule (sized n) (in_text ReportLength 0) e1.0 in
+    let few : v ≤ most_visits = (count-is n sized-is).1 in
     let sum : drop (n - sum_size) t ≡ sum_of c.check y = (bytes_eq-Decides (drop (n - sum_size) t) (sum_of c.check y)).0 (kept_rule _ (in_text ReportChecksum (n - sum_size)) e2.0) in
     let start : s ≡ start_of c.seal (wand_at x) (num_at x) = (bytes_eq-Decides s (start_of c.seal (wand_at x) (num_at x))).0 (kept_rule _ (in_text ReportStart 0) e4.0) in
     let fits : v ≤ free = leb-true v free (kept_rule _ (in_book TooFewCells free) e5.0) in
-    let yl : length y ≡ n - sum_size = length-take-le (n - sum_size) t (omega arith) in
-    let zl : length z ≡ body_size v = omega (arith, length-drop start_size y) in
-    let mix : Mixable s z = record {
-      from = (length-take-le start_size t (omega arith), octets-take start_size t o);
-      long = omega arith;
-      octets = octets-drop start_size y (octets-take (n - sum_size) t o);
-    } in
+    let nl : n ≡ text_size v = (count-is n sized-is).0 in
+    let mix = mixable t o sized-is in
+    let zl = mixed-size t sized-is in
     let xb = back c law s z mix in
     let sound = none-body v x xb.1 (xb.0 ∙ zl) few e3.0 in
     let body : body_of (report_at v x) ≡ x = body_back v x xb.1 (xb.0 ∙ zl) sound.lettered sound.counted in
@@ -107,7 +127,7 @@ opened-is-sealed c law free t o r e =
     })
 
 -- Lengths that no text has.
-refused : (c : Sealer) (free : ℕ) (t : List ℕ) → sized (length t) ≡ false → open_answer c free t ≡ Err (in_text ReportLength 0)
+pub refused : (c : Sealer) (free : ℕ) (t : List ℕ) → sized (length t) ≡ false → open_answer c free t ≡ Err (in_text ReportLength 0)
 unfolding open_answer
 refused c free t e = rw e
 

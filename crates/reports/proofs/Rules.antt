@@ -20,7 +20,7 @@ use Rattle.reports.proofs.Bodies.{wand-there, num-there, count-there, site-there
 -- A rule with no fault is kept, and the other way round.
 pub kept_rule : (b : Bool) (f : Fault) → rule b f ≡ None → b ≡ true
 kept_rule true f e = refl
-kept_rule false f e = let z : ◌≡◌ {A = ℕ} 0 1 = cc in absurd (omega arith)
+kept_rule false f e = cc
 
 pub rule-kept : (b : Bool) (f : Fault) → b ≡ true → rule b f ≡ None
 rule-kept b f e = rw e
@@ -30,14 +30,14 @@ both-none a b p q = rw (p, q)
 
 pub none_both : (a b : Option Fault) → or_else a b ≡ None → (a ≡ None) × (b ≡ None)
 none_both None b e = (refl, e)
-none_both (Some f) b e = let z : ◌≡◌ {A = ℕ} 0 1 = cc in absurd (omega arith)
+none_both (Some f) b e = cc
 
 pub past : {A : Type 0} (o : Option Fault) (x y : Result A Fault) → o ≡ None → x ≡ y → unless o x ≡ y
 past o x y p q = rw (p, q)
 
 pub passed : {A : Type 0} (o : Option Fault) (x : Result A Fault) (a : A) → unless o x ≡ Ok a → (o ≡ None) × (x ≡ Ok a)
 passed None x a e = (refl, e)
-passed (Some f) x a e = let z : ◌≡◌ {A = ℕ} 0 1 = cc in absurd (omega arith)
+passed (Some f) x a e = cc
 
 -- Lawful reports break no rule.
 pub visits-none : (at last : ℕ) (vs : List Visit) → LawfulVisits last vs → visits_fault at last vs ≡ None
@@ -111,4 +111,4 @@ none-body v x o l few e =
 -- The first of two faults is the fault of both.
 pub first-fault : {A : Type 0} (o q : Option Fault) (h k : A) (f : Fault) → Err f ≡ unless o (Ok h) → Err f ≡ unless (or_else o q) (Ok k)
 first-fault (Some w) q h k f e = e
-first-fault None q h k f e = let z : ◌≡◌ {A = ℕ} 0 1 = cc in absurd (omega arith)
+first-fault None q h k f e = cc

@@ -1,5 +1,6 @@
 -- The sealed text of a report, and what sealing a list answers.
-use Rattle.std.specs.Prelude.{ℕ, ◌+◌, ◌*◌, Bool, true, cond, ◌&&◌, List, [], ◌∷◌, ◌++◌, length, replicate, Ok, Err, Result, nat_le, nat_lt}
+use Rattle.std.specs.Prelude.{◌≡◌, ℕ, ◌+◌, ◌*◌, Bool, true, cond, ◌&&◌, List, [], ◌∷◌, ◌++◌, length, replicate, Some, None, Ok, Err, Option, Result, nat_le, nat_lt}
+use Rattle.std.specs.Borrow.{MutBor}
 use Rattle.blocks.specs.Fields.{field}
 use Rattle.blocks.specs.Steps.{Step, Reversible, Lands}
 use Rattle.blocks.specs.declared.answers.Refusal.{Refusal}
@@ -7,6 +8,7 @@ use Rattle.blocks.specs.declared.answers.Refusal.TheVariants.{ReportHeader, Unla
 use Rattle.modes.specs.Checksum.{checksum}
 use Rattle.modes.specs.Modes.{cbc_encrypt, cbc_decrypt}
 use Rattle.reports.specs.declared.visit.Visit.{Visit}
+use Rattle.reports.specs.declared.sealing.Sealer as lent
 use Rattle.reports.specs.Layout.{Report, head_size, visit_size, most_visits, body_of}
 use Rattle.reports.specs.Lawful.{most_number}
 
@@ -29,10 +31,18 @@ pub record Sealer : Type 0 where
 abbrev pub sealer : Step → Step → Sealer
 sealer m k = record { seal = m; check = k.image }
 
+-- The same, of two lent blocks by their meanings.
+abbrev pub sealer_of : {S C : Type 0} → (S → Step) → (C → Step) → lent.Sealer S C → Sealer
+sealer_of seal check s = sealer (seal s.seal.now) (check s.check.now)
+
 -- Such as two blocks give.
 pub record LawfulSealer (s : Sealer) : Type 0 where
   pub reversible : Reversible s.seal
   pub lands : Lands s.check
+
+-- A lent block is the same one, and means what it meant.
+abbrev pub SameBlock : {B : Type 0} → (B → Step) → MutBor B → MutBor B → Type 0
+SameBlock meaning before after = (meaning after.now ≡ meaning before.now) × (after.ghost_name ≡ before.ghost_name)
 
 -- The start of a report: the seal block's image of wand number, report number and eight zeros.
 abbrev pub seed_of : ℕ → ℕ → List ℕ
@@ -75,6 +85,10 @@ visits_ok last (v ∷ vs) = visit_ok last v && visits_ok v.read vs
 -- Whether what stands before the visits is lawful, with so many of them.
 abbrev pub head_ok : Report → Bool
 head_ok r = nat_lt 0 r.wand && (numbered r.number && (nat_lt 0 r.site && nat_le (length r.visits) most_visits))
+
+-- The first of these rules that a report breaks, if any.
+abbrev pub law_broken : Report → Option Refusal
+law_broken r = cond (head_ok r) (cond (visits_ok 0 r.visits) None (Some UnlawfulVisit)) (Some ReportHeader)
 
 -- What sealing a list into so much room answers: the first rule that is broken, or the length of the text.
 abbrev pub seal_answer : Report → ℕ → Result ℕ Refusal

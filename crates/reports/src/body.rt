@@ -1,150 +1,90 @@
-// The body of a report: written, and read.
-ghost use Rattle.std.specs.Prelude.{◌≡◌, ℕ, ◌+◌, ◌*◌, ◌≤◌, true, [], length, take, drop, Ok};
-ghost use Rattle.std.specs.Str.{bytes_eq};
+// The body of a report, read.
+ghost use Rattle.std.specs.Prelude.{◌≡◌, ◌-◌, ◌/◌, ◌≤◌, length, take, drop, map, Ok};
+ghost use Rattle.std.specs.Simd.{first_chunks};
+ghost use Rattle.reports.specs.Layout.{head_size, visit_size, most_visits, header_at, visit_at};
+ghost use Rattle.reports.specs.Faults.{unless, or_else, in_body};
 ghost use Rattle.blocks.specs.declared.answers.Refusal.TheVariants.{ReportHeader};
-ghost use Rattle.reports.specs.Places.{overlaid};
-ghost use Rattle.reports.specs.Layout.{letters, head_size, visit_size, most_visits, body_size, visit_of, head_of, body_of, report_of, header_at, visit_at, visits_at};
-ghost use Rattle.reports.specs.Lawful.{LawfulVisit};
-ghost use Rattle.reports.specs.Sealing.{visit_ok};
-ghost use Rattle.reports.specs.Faults.{unless, in_body};
-ghost use Rattle.reports.specs.Opening.{head_fault, visits_fault, body_fault};
+ghost use Rattle.reports.specs.Opening.{head_fault, visits_fault};
 
-use crate::fault::{Fault, Layer};
-use crate::places::{get16, get32, put, put16, put32, same};
-use crate::visit::{Header, MOST_NUMBER, Visit};
+use crate::fault::Fault;
+use crate::visit::{HEAD, Header, LETTERS, MOST_NUMBER, VISIT, Visit};
 use blocks::Refusal;
+use blocks::octets::Number;
 
-// The letters that a body begins with.
-const LETTERS: [u8; 4] = *b"BRPT";
-
-// The octets before the visits, and those of a visit.
-pub(crate) const HEAD: usize = 16;
-
-pub(crate) const VISIT: usize = 14;
-
-// Writes a visit at a place.
-fn write_visit(out: &mut [u8], at: usize, v: &Visit)
-    requires { at + visit_size ≤ length out.old }
-    ensures { out.new ≡ overlaid at (visit_of v.now) out.old }
-{
-    put16(out, at, v.checkpoint);
-    put32(out, at + 2, v.serial);
-    put32(out, at + 6, v.time);
-    put32(out, at + 10, v.read);
+// A body in its parts: what stands before the visits, and the visits.
+#[derive(Clone, Copy)]
+pub(crate) struct Body<'a> {
+    pub(crate) head: &'a [u8; HEAD],
+    pub(crate) visits: &'a [[u8; VISIT]],
+    ghost few: { length visits.now ≤ most_visits },
 }
 
-// Writes what stands before the visits.
-fn write_head(out: &mut [u8], header: &Header, count: u16)
-    requires { head_size ≤ length out.old }
-    ensures { out.new ≡ overlaid 0 (head_of count (report_of header.now [])) out.old }
-{
-    put(out, 0, &LETTERS);
-    put32(out, 4, header.wand);
-    put32(out, 8, header.number);
-    put16(out, 12, count);
-    put16(out, 14, header.site);
-}
-
-// Writes a whole body.
-pub(crate) fn write_body(out: &mut [u8], header: &Header, visits: &[Visit])
-    requires few { length visits.now ≤ most_visits }
-    requires room { length out.old ≡ body_size (length visits.now) }
-    ensures { out.new ≡ body_of (report_of header.now visits.now) }
-{
-    write_head(out, header, visits.len() as u16);
-    for (i, v) in visits.iter().enumerate() {
-        write_visit(out, HEAD + VISIT * i, v);
+impl<'a> Body<'a> {
+    // Takes octets apart.
+    pub(crate) fn of(octets: &'a [u8]) -> Body<'a>
+        requires long { head_size ≤ length octets.now }
+        requires few { (length octets.now - head_size) / visit_size ≤ most_visits }
+        ensures head { result.head.now ≡ take head_size octets.now }
+        ensures visits { result.visits.now ≡ first_chunks visit_size ((length octets.now - head_size) / visit_size) (drop head_size octets.now) }
+    {
+        let (head, rest) = octets.split_first_chunk().unwrap();
+        let (visits, _) = rest.as_chunks();
+        Body { head, visits }
     }
-}
 
-// The visit at a place.
-pub(crate) fn visit_at(body: &[u8], at: usize) -> Visit
-    requires { at + visit_size ≤ length body.now }
-    ensures { result ≡ visit_at (drop at body.now) }
-{
-    Visit {
-        checkpoint: get16(body, at),
-        serial: get32(body, at + 2),
-        time: get32(body, at + 6),
-        read: get32(body, at + 10),
+    // What the body says, or the first part of it that is wrong.
+    pub(crate) fn read(&self) -> Result<Header, Fault>
+        ensures { result ≡ unless (or_else (head_fault (length self.now.visits.now) self.now.head.now) (visits_fault head_size 0 (map visit_at self.now.visits.now))) (Ok (header_at self.now.head.now)) }
+    {
+        let header = read_head(self.head, self.visits.len())?;
+        self.check_visits()?;
+        Ok(header)
     }
-}
 
-// Whether a visit is lawful after the read number `last`.
-pub(crate) fn visit_lawful(v: Visit, last: u32) -> bool
-    ensures answer { result ≡ visit_ok last v }
-    ensures lawful { result ≡ true → LawfulVisit last v }
-{
-    v.checkpoint > 0 && v.read > last && v.read <= MOST_NUMBER
-}
-
-fn lettered(body: &[u8]) -> bool
-    requires { head_size ≤ length body.now }
-    ensures { result ≡ bytes_eq (take 4 body.now) letters }
-{
-    same(&body[0..4], &LETTERS)
+    // The first visit that is wrong, if any. A closure that reads a visit, shared with `visits_lawful`, would be no plainer.
+    fn check_visits(&self) -> Result<(), Fault>
+        ensures { result ≡ unless (visits_fault head_size 0 (map visit_at self.now.visits.now)) (Ok tt) }
+    {
+        let mut last = 0;
+        for (i, octets) in self.visits.iter().enumerate() {
+            let visit = Visit::from_octets(octets);
+            if !visit.is_lawful(last) {
+                return Err(Fault::in_body(Refusal::UnlawfulVisit, HEAD + VISIT * i));
+            }
+            last = visit.read;
+        }
+        Ok(())
+    }
 }
 
 // The fault of a field before the visits.
 fn wrong(place: usize) -> Fault
     ensures { result ≡ in_body ReportHeader place }
 {
-    Fault {
-        refusal: Refusal::ReportHeader,
-        layer: Layer::Body,
-        place,
-    }
+    Fault::in_body(Refusal::ReportHeader, place)
 }
 
-// What stands before `v` visits, or the first field that is wrong.
-fn read_head(body: &[u8], v: usize) -> Result<Header, Fault>
-    requires { head_size ≤ length body.now }
-    ensures { result ≡ unless (head_fault v body.now) (Ok (header_at body.now)) }
+// What stands before so many visits, or the first field that is wrong.
+fn read_head(head: &[u8; HEAD], visits: usize) -> Result<Header, Fault>
+    ensures { result ≡ unless (head_fault visits head.now) (Ok (header_at head.now)) }
 {
-    let wand = get32(body, 4);
-    let number = get32(body, 8);
-    let site = get16(body, 14);
-    if !lettered(body) {
+    let (words, _) = head.as_chunks();
+    let wand = u32::number(&words[1]);
+    let number = u32::number(&words[2]);
+    let [c0, c1, s0, s1] = words[3];
+    let count = u16::number(&[c0, c1]);
+    let site = u16::number(&[s0, s1]);
+    if words[0] != LETTERS {
         Err(wrong(0))
     } else if wand == 0 {
         Err(wrong(4))
     } else if number == 0 || number > MOST_NUMBER {
         Err(wrong(8))
-    } else if get16(body, 12) as usize != v {
+    } else if count as usize != visits {
         Err(wrong(12))
     } else if site == 0 {
         Err(wrong(14))
     } else {
         Ok(Header { wand, number, site })
     }
-}
-
-// The first visit that is wrong, if any.
-fn check_visits(body: &[u8], v: usize) -> Result<(), Fault>
-    requires { (length body.now ≡ body_size v) × (v ≤ most_visits) }
-    ensures { result ≡ unless (visits_fault head_size 0 (visits_at v (drop head_size body.now))) (Ok tt) }
-{
-    let mut last = 0;
-    for i in 0..v {
-        let visit = visit_at(body, HEAD + VISIT * i);
-        if !visit_lawful(visit, last) {
-            return Err(Fault {
-                refusal: Refusal::UnlawfulVisit,
-                layer: Layer::Body,
-                place: HEAD + VISIT * i,
-            });
-        }
-        last = visit.read;
-    }
-    Ok(())
-}
-
-// What a body of `v` visits says, or the first part of it that is wrong.
-pub(crate) fn read_body(body: &[u8], v: usize) -> Result<Header, Fault>
-    requires { (length body.now ≡ body_size v) × (v ≤ most_visits) }
-    ensures { result ≡ unless (body_fault v body.now) (Ok (header_at body.now)) }
-{
-    let header = read_head(body, v)?;
-    check_visits(body, v)?;
-    Ok(header)
 }

@@ -1,11 +1,11 @@
 // Faults: what is wrong with a report that was refused, in which layer, and where.
 ghost use Rattle.std.specs.Prelude.{◌≡◌};
-ghost use Rattle.reports.specs.Faults.{layer_number};
+ghost use Rattle.reports.specs.Faults.{layer_number, in_text, in_body, in_book};
 
 use blocks::Refusal;
 
 // What a fault's place is a place of.
-#[derive(Clone, Copy)]
+#[derive(Clone, Copy, Debug, PartialEq, Eq)]
 pub enum Layer {
     // The text as it came; a place is an octet of it.
     Text = 1,
@@ -24,10 +24,51 @@ impl Layer {
     }
 }
 
+impl From<Layer> for u8 {
+    ghost from_gives = { λ layer n. n ≡ layer_number layer };
+
+    fn from(layer: Layer) -> u8 {
+        layer.number()
+    }
+}
+
 // Why a report was refused, and the place that shows it.
-#[derive(Clone, Copy)]
+#[derive(Clone, Copy, Debug, PartialEq, Eq)]
 pub struct Fault {
     pub refusal: Refusal,
     pub layer: Layer,
     pub place: usize,
+}
+
+impl Fault {
+    // A fault of the text, of the body, or of the book, at a place.
+    pub(crate) fn in_text(refusal: Refusal, place: usize) -> Fault
+        ensures { result ≡ in_text refusal place }
+    {
+        Fault {
+            refusal,
+            layer: Layer::Text,
+            place,
+        }
+    }
+
+    pub(crate) fn in_body(refusal: Refusal, place: usize) -> Fault
+        ensures { result ≡ in_body refusal place }
+    {
+        Fault {
+            refusal,
+            layer: Layer::Body,
+            place,
+        }
+    }
+
+    pub(crate) fn in_book(refusal: Refusal, place: usize) -> Fault
+        ensures { result ≡ in_book refusal place }
+    {
+        Fault {
+            refusal,
+            layer: Layer::Book,
+            place,
+        }
+    }
 }

@@ -7,11 +7,13 @@ mod body;
 pub mod fault;
 pub mod office;
 mod places;
-pub mod seal;
+mod report;
+mod seal;
 mod sealing;
 pub mod visit;
 
 pub use fault::{Fault, Layer};
+pub use sealing::Sealer;
 pub use visit::{Header, Visit};
 
 // Examples that follow from the definitions: the text of an empty report, and lengths that no report has.

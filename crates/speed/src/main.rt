@@ -2,13 +2,42 @@
 // Arguments: one, back, two or backtwo, and how many times; without them, a thousand times each way.
 #![tactic(auto)]
 
-use anyhow::anyhow;
 use belt::BeltBlock;
 use blocks::Block;
 use hexadecimal::Hex;
 use std::env;
+use std::str::FromStr;
+use thiserror::Error;
 
 const KEY: [u8; 32] = *b"a key that is only for measuring";
+
+// How the block is stepped.
+#[derive(Clone, Copy)]
+enum Way {
+    One,
+    Back,
+    Two,
+    BackTwo,
+}
+
+// No way has that name.
+#[derive(Debug, Drop, Error)]
+#[error("one, back, two or backtwo")]
+struct UnknownWay;
+
+impl FromStr for Way {
+    type Err = UnknownWay;
+
+    fn from_str(name: &str) -> Result<Way, UnknownWay> {
+        match name {
+            "one" => Ok(Way::One),
+            "back" => Ok(Way::Back),
+            "two" => Ok(Way::Two),
+            "backtwo" => Ok(Way::BackTwo),
+            _ => Err(UnknownWay),
+        }
+    }
+}
 
 fn main(rt: HostRuntime) -> anyhow::Result<()> {
     run(&rt)
@@ -17,69 +46,33 @@ fn main(rt: HostRuntime) -> anyhow::Result<()> {
 fn run(rt: &HostRuntime) -> anyhow::Result<()> {
     let mut args = env::args(rt)?;
     let _program = args.next();
-    match (args.next(), args.next()) {
-        (Some(way), Some(count)) => show(rt, way.as_bytes(), count.as_str().parse::<u32>()?),
-        _ => {
-            for way in [b"one", b"two"] {
-                show(rt, way, 1000)?;
-            }
-            show(rt, b"back", 1000)?;
-            show(rt, b"backtwo", 1000)
-        }
+    if let (Some(way), Some(count)) = (args.next(), args.next()) {
+        let count = count.as_str().parse()?;
+        return show(rt, way.as_str().parse()?, count);
     }
+    for way in [Way::One, Way::Two, Way::Back, Way::BackTwo] {
+        show(rt, way, 1000)?;
+    }
+    Ok(())
 }
 
-fn show(rt: &HostRuntime, way: &[u8], count: u32) -> anyhow::Result<()> {
-    let Ok(mut belt) = BeltBlock::new(&KEY) else {
-        return Err(anyhow!("the key's length is unknown"));
-    };
+// Prints where so many steps lead from blocks of zeros and ones.
+fn show(rt: &HostRuntime, way: Way, count: u32) -> anyhow::Result<()> {
+    let mut belt = BeltBlock::new(&KEY).unwrap();
+    let pair = ([0; 16], [1; 16]);
     let (p, q) = match way {
-        b"one" => (forward(&mut belt, count), [0; 16]),
-        b"back" => (backward(&mut belt, count), [0; 16]),
-        b"two" => forward_two(&mut belt, count),
-        b"backtwo" => backward_two(&mut belt, count),
-        _ => return Err(anyhow!("one, back, two or backtwo")),
+        Way::One => (repeat(count, [0; 16], |p| belt.forward(p)), [0; 16]),
+        Way::Back => (repeat(count, [0; 16], |p| belt.backward(p)), [0; 16]),
+        Way::Two => repeat(count, pair, |(p, q)| belt.forward_two(p, q)),
+        Way::BackTwo => repeat(count, pair, |(p, q)| belt.backward_two(p, q)),
     };
     println!(rt; "{} {}", Hex(&p), Hex(&q))?;
     Ok(())
 }
 
-fn forward<B: Block>(block: &mut B, count: u32) -> [u8; 16] {
-    let mut p = [0; 16];
-    for _ in 0..count {
-        let next = block.forward(p);
-        p = next;
-    }
-    p
-}
-
-fn backward<B: Block>(block: &mut B, count: u32) -> [u8; 16] {
-    let mut p = [0; 16];
-    for _ in 0..count {
-        let next = block.backward(p);
-        p = next;
-    }
-    p
-}
-
-fn forward_two<B: Block>(block: &mut B, count: u32) -> ([u8; 16], [u8; 16]) {
-    let mut p = [0; 16];
-    let mut q = [1; 16];
-    for _ in 0..count {
-        let (a, b) = block.forward_two(p, q);
-        p = a;
-        q = b;
-    }
-    (p, q)
-}
-
-fn backward_two<B: Block>(block: &mut B, count: u32) -> ([u8; 16], [u8; 16]) {
-    let mut p = [0; 16];
-    let mut q = [1; 16];
-    for _ in 0..count {
-        let (a, b) = block.backward_two(p, q);
-        p = a;
-        q = b;
-    }
-    (p, q)
+// Takes a step so many times, each from where the last one led.
+fn repeat<T, F: FnMut(T) -> T>(count: u32, start: T, mut step: F) -> T
+    requires { (step : F) (at : T) → F.pre step at }
+{
+    (0..count).fold(start, |at, _| step(at))
 }

@@ -33,11 +33,11 @@ fn copy_out(book: &Book<u32>, out: &mut [u32]) -> usize
     ensures copied { take result out.new ≡ take result (elements book.now) }
     ensures count { result ≡ min (length out.new) (length (elements book.now)) }
 {
-    for i in 0..out.len() {
+    for (i, slot) in out.iter_mut().enumerate() {
         let Some(element) = book.read(i + 1) else {
             return i;
         };
-        out[i] = element;
+        *slot = element;
     }
     out.len()
 }
@@ -86,11 +86,9 @@ fn one_cell(rt: HostRuntime) {
 // Fills a book, which then refuses and stays as it was, and empties it again.
 fn fill_and_empty(rt: &impl Abort, cells: &mut [Cell<usize>], capacity: usize) {
     let mut book = Book::new(cells);
-    let mut last = 0;
     for i in 0..capacity {
         assert_eq!(rt; book.free(), capacity - i);
         assert_eq!(rt; book.add_last(i), Ok(()));
-        last = i;
     }
     assert_eq!(rt; book.add_last(capacity), Err(Refusal::TooFewCells));
     assert_eq!(rt; book.len(), capacity);
@@ -98,7 +96,7 @@ fn fill_and_empty(rt: &impl Abort, cells: &mut [Cell<usize>], capacity: usize) {
     assert_eq!(rt; book.read(0), None);
     assert_eq!(rt; book.read(1), Some(0));
     assert_eq!(rt; book.read(7), Some(6));
-    assert_eq!(rt; book.read(capacity), Some(last));
+    assert_eq!(rt; book.read(capacity), capacity.checked_sub(1));
     assert_eq!(rt; book.read(usize::MAX), None);
     for i in 0..capacity {
         assert_eq!(rt; book.take_first(), Some(i));
@@ -122,14 +120,13 @@ fn many_cells(rt: HostRuntime) {
 fn cells_serve_again(rt: HostRuntime) {
     let mut cells = [Cell::new(0); 5];
     let mut book = Book::new(&mut cells);
-    let mut taken = 0;
+    let mut waiting = 0..1000u32;
     for i in 0..1000u32 {
         assert_eq!(rt; book.add_last(i), Ok(()));
         if i % 2 == 1 || book.free() == 0 {
-            assert_eq!(rt; book.take_first(), Some(taken));
-            taken = taken.wrapping_add(1);
+            assert_eq!(rt; book.take_first(), waiting.next());
         }
-        assert_eq!(rt; book.read(1), Some(taken));
+        assert_eq!(rt; book.read(1), Some(waiting.start));
         assert_eq!(rt; book.read(book.len()), Some(i));
     }
     assert_eq!(rt; book.len(), 4);

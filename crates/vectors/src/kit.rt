@@ -1,117 +1,85 @@
 // The kit: the three keys of a site, every length of key, and refusals.
-use crate::text::all;
+use crate::text::{in_scratch, written};
 use belt::BeltBlock;
 use belt::transform::transform;
+use blocks::Refusal;
 use modes::wrap::wrap;
 use rounds::kit::kit;
+use std::alloc::AllocGlobal;
 use std::process::Abort;
 use std::test::Fail;
 
 const HEADER: [u8; 16] = [7; 16];
 
-// A site key of so many octets, wrapped.
-fn wrapped(n: usize) -> [u8; 272] {
-    let mut text = [0u8; 272];
-    if n <= 256
-        && let Ok(mut block) = BeltBlock::new(&[9; 32])
-    {
-        let _ = wrap(&mut block, HEADER, &[5; 256][0..n], &mut text);
-    }
-    text
+// A site key, wrapped.
+fn wrapped(rt: &(impl Abort + AllocGlobal), site_key: &[u8]) -> Result<Vec<u8>, Refusal> {
+    let mut block = BeltBlock::new(&[9; 32])?;
+    written(rt, 272, |out| wrap(&mut block, HEADER, site_key, out))
 }
 
-// What the kit answers of a site key of n octets, in a scratch and an output of so many octets; whether the scratch ends as zeros, and
-// the output past the result is as it was.
+// The kit of a wrapped site key, made in a scratch and to an output of so many octets.
 fn answer(
-    rt: &impl Abort,
-    n: usize,
+    rt: &(impl Abort + AllocGlobal),
+    text: &[u8],
     header: [u8; 16],
     scratch_room: usize,
     room: usize,
-) -> Result<(u8, bool), Fail> {
-    let mut scratch = [7u8; 300];
-    let mut out = [7u8; 100];
-    assert!(rt; n <= 256 && scratch_room <= 300 && room <= 100);
-    answer_in(
-        rt,
-        n,
-        header,
-        &mut scratch[0..scratch_room],
-        &mut out[0..room],
-    )
+) -> Result<Vec<u8>, Refusal> {
+    let mut block = BeltBlock::new(&[9; 32])?;
+    written(rt, room, |out| {
+        in_scratch(rt, scratch_room, |scratch| {
+            kit(&mut block, header, text, 258, scratch, out)
+        })
+    })
 }
 
-fn answer_in(
-    rt: &impl Abort,
-    n: usize,
-    header: [u8; 16],
-    scratch: &mut [u8],
-    out: &mut [u8],
-) -> Result<(u8, bool), Fail> {
-    let mut block = BeltBlock::new(&[9; 32])?;
-    let text = wrapped(n);
-    assert!(rt; n <= 256);
-    match kit(&mut block, header, &text[0..n + 16], 258, scratch, out) {
-        Ok(size) => Ok((
-            0,
-            size == 3 * n && size <= out.len() && all(&out[size..out.len()], 7) && all(scratch, 0),
-        )),
-        Err(refusal) => Ok((refusal.number(), all(out, 7) && all(scratch, 0))),
+// The site key's transformations under the three headers, one after the other.
+fn transformed(rt: &(impl Abort + AllocGlobal), site_key: &[u8]) -> Result<Vec<u8>, Fail> {
+    let n = site_key.len();
+    let mut keys = Vec::new(rt.alloc());
+    for i in [1, 2, 3] {
+        let header = [i, 2, 1, 0, 0, 0, 0, 0, 0, 0, 0, 0, 0, 0, 0, 0];
+        let key = written(rt, n, |out| transform(site_key, [0; 12], header, n, out))?;
+        assert_eq!(rt; key.len(), n);
+        keys.extend_from_slice(&key)?;
     }
-}
-
-// Whether the kit's keys of a site key of n octets are its transformations under the three headers.
-fn transforms(rt: &impl Abort, n: usize) -> Result<bool, Fail> {
-    let mut block = BeltBlock::new(&[9; 32])?;
-    let text = wrapped(n);
-    assert!(rt; n <= 32);
-    let mut scratch = [7u8; 272];
-    let mut out = [7u8; 96];
-    assert_eq!(rt;
-        kit(
-            &mut block,
-            HEADER,
-            &text[0..n + 16],
-            258,
-            &mut scratch,
-            &mut out,
-        )?,
-        3 * n
-    );
-    for i in 0..3usize {
-        let mut header = [0; 16];
-        header[0] = i as u8 + 1;
-        header[1] = 2;
-        header[2] = 1;
-        let mut key = [0; 32];
-        let size = transform(&[5; 32][0..n], [0; 12], header, n, &mut key)?;
-        if size != n || &out[n * i..n * i + n] != &key[0..n] {
-            return Ok(false);
-        }
-    }
-    Ok(true)
+    Ok(keys)
 }
 
 #[test]
 fn kit_transforms_the_site_key(rt: HostRuntime) -> Result<(), Fail> {
-    for n in [16usize, 24, 32] {
-        assert!(rt; transforms(&rt, n)?);
-        assert_eq!(rt; answer(&rt, n, HEADER, 272, 96)?, (0, true));
-        assert_eq!(rt; answer(&rt, n, HEADER, 300, 100)?, (0, true));
+    let key = [5; 32];
+    for site_key in [&key[..16], &key[..24], &key] {
+        let keys = transformed(&rt, site_key)?;
+        let text = wrapped(&rt, site_key)?;
+        assert_eq!(rt; answer(&rt, &text, HEADER, 272, 96)?, keys);
+        assert_eq!(rt; answer(&rt, &text, HEADER, 300, 100)?, keys);
     }
     Ok(())
 }
 
 #[test]
 fn kit_refuses(rt: HostRuntime) -> Result<(), Fail> {
-    assert_eq!(rt; answer(&rt, 20, HEADER, 272, 96)?, (34, true));
-    assert_eq!(rt; answer(&rt, 256, HEADER, 272, 96)?, (34, true));
-    assert_eq!(rt; answer(&rt, 15, HEADER, 272, 96)?, (51, true));
-    assert_eq!(rt; answer(&rt, 15, HEADER, 0, 0)?, (51, true));
-    assert_eq!(rt; answer(&rt, 16, HEADER, 272, 95)?, (31, true));
-    assert_eq!(rt; answer(&rt, 16, HEADER, 271, 96)?, (31, true));
-    assert_eq!(rt; answer(&rt, 20, [8; 16], 0, 96)?, (31, true));
-    assert_eq!(rt; answer(&rt, 16, [8; 16], 272, 96)?, (52, true));
-    assert_eq!(rt; answer(&rt, 20, [8; 16], 272, 96)?, (52, true));
+    let sixteen = wrapped(&rt, &[5; 16])?;
+    let twenty = wrapped(&rt, &[5; 20])?;
+    let longest = wrapped(&rt, &[5; 256])?;
+    let short = [0; 31];
+    for (text, header, scratch_room, room, refusal) in [
+        (twenty.as_slice(), HEADER, 272, 96, Refusal::KeyLength),
+        (&longest, HEADER, 272, 96, Refusal::KeyLength),
+        (&short, HEADER, 272, 96, Refusal::WrappedLength),
+        (&short, HEADER, 0, 0, Refusal::WrappedLength),
+        (&sixteen, HEADER, 272, 95, Refusal::ShortOutput),
+        (&sixteen, HEADER, 271, 96, Refusal::ShortOutput),
+        (&twenty, [8; 16], 0, 96, Refusal::ShortOutput),
+        (&sixteen, [8; 16], 272, 96, Refusal::HeaderDiffers),
+        (&twenty, [8; 16], 272, 96, Refusal::HeaderDiffers),
+    ] {
+        assert_eq!(rt;
+            answer(&rt, text, header, scratch_room, room),
+            Err(refusal),
+            "scratch of {scratch_room}, output of {room}"
+        );
+    }
     Ok(())
 }

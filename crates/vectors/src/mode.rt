@@ -1,206 +1,182 @@
 // The modes and the checksum over the BelT block: lengths, refusals and counting.
-use crate::text::front;
+use crate::text::written;
 use belt::BeltBlock;
-use blocks::answers::answer_number;
 use blocks::{BenchBlock, Refusal};
 use modes::cbc::{cbc_decrypt, cbc_encrypt};
 use modes::cfb::{cfb_decrypt, cfb_encrypt};
 use modes::checksum::checksum;
-use modes::ctr::{ctr_decrypt, ctr_encrypt};
+use modes::ctr::ctr;
 use modes::ecb::{ecb_decrypt, ecb_encrypt};
+use std::alloc::AllocGlobal;
+use std::array;
 use std::process::Abort;
 use std::test::Fail;
 
-// The calls of the modes.
-#[derive(Clone, Copy)]
-pub enum Call {
-    EcbEncrypt,
-    EcbDecrypt,
-    CbcEncrypt,
-    CbcDecrypt,
-    CfbEncrypt,
-    CfbDecrypt,
-    CtrEncrypt,
-    CtrDecrypt,
-}
-
-impl Call {
-    pub fn run(
-        self,
-        block: &mut BeltBlock,
-        start: [u8; 16],
-        message: &[u8],
-        out: &mut [u8],
-    ) -> Result<usize, Refusal> {
-        match self {
-            Call::EcbEncrypt => ecb_encrypt(block, message, out),
-            Call::EcbDecrypt => ecb_decrypt(block, message, out),
-            Call::CbcEncrypt => cbc_encrypt(block, start, message, out),
-            Call::CbcDecrypt => cbc_decrypt(block, start, message, out),
-            Call::CfbEncrypt => cfb_encrypt(block, start, message, out),
-            Call::CfbDecrypt => cfb_decrypt(block, start, message, out),
-            Call::CtrEncrypt => ctr_encrypt(block, start, message, out),
-            Call::CtrDecrypt => ctr_decrypt(block, start, message, out),
-        }
-    }
-
-    // The call that undoes this one.
-    pub fn undoing(self) -> Call {
-        match self {
-            Call::EcbEncrypt => Call::EcbDecrypt,
-            Call::EcbDecrypt => Call::EcbEncrypt,
-            Call::CbcEncrypt => Call::CbcDecrypt,
-            Call::CbcDecrypt => Call::CbcEncrypt,
-            Call::CfbEncrypt => Call::CfbDecrypt,
-            Call::CfbDecrypt => Call::CfbEncrypt,
-            Call::CtrEncrypt => Call::CtrDecrypt,
-            Call::CtrDecrypt => Call::CtrEncrypt,
-        }
-    }
-
-    // The fewest octets that the call takes.
-    fn least(self) -> usize {
-        match self {
-            Call::EcbEncrypt | Call::EcbDecrypt | Call::CbcEncrypt | Call::CbcDecrypt => 16,
-            Call::CfbEncrypt | Call::CfbDecrypt | Call::CtrEncrypt | Call::CtrDecrypt => 0,
-        }
-    }
-}
-
-const CALLS: [Call; 8] = [
-    Call::EcbEncrypt,
-    Call::EcbDecrypt,
-    Call::CbcEncrypt,
-    Call::CbcDecrypt,
-    Call::CfbEncrypt,
-    Call::CfbDecrypt,
-    Call::CtrEncrypt,
-    Call::CtrDecrypt,
-];
+const KEY: [u8; 32] = [9; 32];
 
 const START: [u8; 16] = [3; 16];
 
-// From n on x has only the octet 85.
-fn untouched(x: &[u8], n: usize) -> bool {
-    for j in n..x.len() {
-        if x[j] != 85 {
-            return false;
-        }
-    }
-    true
-}
-
-const LENGTHS: [usize; 10] = [0, 1, 15, 16, 17, 31, 32, 33, 65_536, 65_537];
-
 fn sample() -> [u8; 65_537] {
-    let mut x = [0; 65_537];
-    for j in 0..65_537 {
-        x[j] = (j % 251) as u8;
-    }
-    x
+    array::from_fn(|j| (j % 251) as u8)
 }
 
-// The number of the answer where there is room for the text.
-fn expected(call: Call, n: usize) -> u8 {
-    if n > 65_536 {
-        32
-    } else if n < call.least() {
-        33
-    } else {
-        0
-    }
-}
-
-// A message there and back, or the refusal that leaves the output as it was.
-fn there_and_back(
-    rt: &impl Abort,
-    call: Call,
+// ECB called as the modes that have a start.
+pub fn ecb_encrypt_from(
     block: &mut BeltBlock,
+    _start: [u8; 16],
     message: &[u8],
-) -> Result<(), Fail> {
-    let n = message.len();
-    let mut text = [85; 65_540];
-    let there = call.run(block, START, message, &mut text);
-    assert_eq!(rt; answer_number(&there), expected(call, n));
-    let Ok(written) = there else {
-        assert!(rt; untouched(&text, 0));
-        return Ok(());
-    };
-    assert_eq!(rt; written, n);
-    assert!(rt; untouched(&text, n));
-    let mut back = [85; 65_540];
-    assert_eq!(rt;
-        call.undoing()
-            .run(block, START, front(&text, n), &mut back)?,
-        n
-    );
-    assert!(rt; front(&back, n) == message && untouched(&back, n));
+    out: &mut [u8],
+) -> Result<usize, Refusal> {
+    ecb_encrypt(block, message, out)
+}
+
+pub fn ecb_decrypt_from(
+    block: &mut BeltBlock,
+    _start: [u8; 16],
+    message: &[u8],
+    out: &mut [u8],
+) -> Result<usize, Refusal> {
+    ecb_decrypt(block, message, out)
+}
+
+// What a call writes of a text, over the block of a key and from a start, to an output of so many octets.
+pub fn run<F>(
+    rt: &(impl Abort + AllocGlobal),
+    call: &F,
+    key: &[u8; 32],
+    start: [u8; 16],
+    text: &[u8],
+    room: usize,
+) -> Result<Vec<u8>, Refusal>
+where
+    F: Fn(&mut BeltBlock, [u8; 16], &[u8], &mut [u8]) -> Result<usize, Refusal>,
+    requires { F.IsAlwaysCallable call.now }
+{
+    let mut block = BeltBlock::new(key)?;
+    written(rt, room, |out| call(&mut block, start, text, out))
+}
+
+// A message there and back, or the refusal of its length.
+fn there_and_back<There, Back>(
+    rt: &(impl Abort + AllocGlobal),
+    least: usize,
+    message: &[u8],
+    there: &There,
+    back: &Back,
+) -> Result<(), Fail>
+where
+    There: Fn(&mut BeltBlock, [u8; 16], &[u8], &mut [u8]) -> Result<usize, Refusal>,
+    Back: Fn(&mut BeltBlock, [u8; 16], &[u8], &mut [u8]) -> Result<usize, Refusal>,
+    requires there { There.IsAlwaysCallable there.now }
+    requires back { Back.IsAlwaysCallable back.now }
+{
+    let text = run(rt, there, &KEY, START, message, 65_540);
+    if message.len() > 65_536 {
+        assert_eq!(rt; text, Err(Refusal::LongMessage));
+    } else if message.len() < least {
+        assert_eq!(rt; text, Err(Refusal::ShortMessage));
+    } else {
+        let text = text?;
+        assert_eq!(rt; text.len(), message.len());
+        let again = run(rt, back, &KEY, START, &text, 65_540)?;
+        assert_eq!(rt; again.as_slice(), message);
+    }
+    Ok(())
+}
+
+// Every length, encrypted and decrypted, and the other way round.
+fn both_ways<E, D>(
+    rt: &(impl Abort + AllocGlobal),
+    least: usize,
+    encrypt: E,
+    decrypt: D,
+) -> Result<(), Fail>
+where
+    E: Fn(&mut BeltBlock, [u8; 16], &[u8], &mut [u8]) -> Result<usize, Refusal>,
+    D: Fn(&mut BeltBlock, [u8; 16], &[u8], &mut [u8]) -> Result<usize, Refusal>,
+    requires encrypt { E.IsAlwaysCallable encrypt }
+    requires decrypt { D.IsAlwaysCallable decrypt }
+{
+    let x = sample();
+    for message in [
+        &x[..0],
+        &x[..1],
+        &x[..15],
+        &x[..16],
+        &x[..17],
+        &x[..31],
+        &x[..32],
+        &x[..33],
+        &x[..65_536],
+        &x,
+    ] {
+        there_and_back(rt, least, message, &encrypt, &decrypt)?;
+        there_and_back(rt, least, message, &decrypt, &encrypt)?;
+    }
     Ok(())
 }
 
 #[test]
 fn lengths(rt: HostRuntime) -> Result<(), Fail> {
-    let message = sample();
-    let mut block = BeltBlock::new(&[9; 32])?;
-    for call in CALLS {
-        for n in LENGTHS {
-            there_and_back(&rt, call, &mut block, front(&message, n))?;
-        }
-    }
-    Ok(())
+    both_ways(&rt, 16, ecb_encrypt_from, ecb_decrypt_from)?;
+    both_ways(&rt, 16, cbc_encrypt, cbc_decrypt)?;
+    both_ways(&rt, 0, cfb_encrypt, cfb_decrypt)?;
+    both_ways(&rt, 0, ctr, ctr)
 }
 
 // A long message comes before a short one, and that before a short output; no refusal writes.
-fn refused(rt: &impl Abort, call: Call, block: &mut BeltBlock, message: &[u8]) {
-    let mut out = [85; 47];
-    assert_eq!(rt;
-        answer_number(&call.run(block, START, message, &mut out)),
-        32
-    );
-    assert_eq!(rt;
-        answer_number(&call.run(block, START, front(message, 48), &mut out)),
-        31
-    );
-    assert!(rt; untouched(&out, 0));
-    let mut small = [85; 14];
-    let number = if call.least() == 16 { 33 } else { 31 };
-    assert_eq!(rt;
-        answer_number(&call.run(block, START, front(message, 15), &mut small)),
-        number
-    );
-    assert!(rt; untouched(&small, 0));
+fn refuses<F>(rt: &(impl Abort + AllocGlobal), of_fifteen: Refusal, call: F)
+where
+    F: Fn(&mut BeltBlock, [u8; 16], &[u8], &mut [u8]) -> Result<usize, Refusal>,
+    requires { F.IsAlwaysCallable call }
+{
+    let x = sample();
+    for (message, room, refusal) in [
+        (&x[..], 47, Refusal::LongMessage),
+        (&x[..48], 47, Refusal::ShortOutput),
+        (&x[..15], 14, of_fifteen),
+    ] {
+        assert_eq!(rt;
+            run(rt, &call, &KEY, START, message, room),
+            Err(refusal),
+            "output of {room}"
+        );
+    }
+}
+
+fn checksum_refuses(rt: &impl Abort) -> Result<(), Fail> {
+    let message = sample();
+    let longest = &message[..65_536];
+    let mut block = BeltBlock::new(&KEY)?;
+    assert_eq!(rt; checksum(&mut block, &message), Err(Refusal::LongMessage));
+    assert!(rt; checksum(&mut block, longest).is_ok());
+    assert!(rt; checksum(&mut block, &[]).is_ok());
+    Ok(())
 }
 
 #[test]
 fn refusals(rt: HostRuntime) -> Result<(), Fail> {
-    let message = sample();
-    let mut block = BeltBlock::new(&[9; 32])?;
-    for call in CALLS {
-        refused(&rt, call, &mut block, &message);
-    }
-    assert_eq!(rt; answer_number(&checksum(&mut block, &message)), 32);
-    assert_eq!(rt;
-        answer_number(&checksum(&mut block, front(&message, 65_536))),
-        0
-    );
-    assert_eq!(rt; answer_number(&checksum(&mut block, &[])), 0);
-    Ok(())
+    refuses(&rt, Refusal::ShortMessage, ecb_encrypt_from);
+    refuses(&rt, Refusal::ShortMessage, ecb_decrypt_from);
+    refuses(&rt, Refusal::ShortMessage, cbc_encrypt);
+    refuses(&rt, Refusal::ShortMessage, cbc_decrypt);
+    refuses(&rt, Refusal::ShortOutput, cfb_encrypt);
+    refuses(&rt, Refusal::ShortOutput, cfb_decrypt);
+    refuses(&rt, Refusal::ShortOutput, ctr);
+    checksum_refuses(&rt)
 }
 
 // Over the bench block without a mask, which only turns the octets round, the count is seen: its first octet is the least.
 #[test]
 fn counts(rt: HostRuntime) -> Result<(), Fail> {
     let mut block = BenchBlock::new([0; 16]);
-    let mut out = [85; 16];
-    assert_eq!(rt;
-        ctr_encrypt(&mut block, 0xFF_u128.to_be_bytes(), &[0; 16], &mut out)?,
-        16
-    );
-    assert_eq!(rt; u128::from_be_bytes(out), 0x0100);
-    assert_eq!(rt;
-        ctr_encrypt(&mut block, u128::MAX.to_be_bytes(), &[0; 16], &mut out)?,
-        16
-    );
-    assert_eq!(rt; u128::from_be_bytes(out), 0);
+    for (start, count) in [(0xFF_u128, 0x0100), (u128::MAX, 0)] {
+        let mut out = [85; 16];
+        assert_eq!(rt;
+            ctr(&mut block, start.to_be_bytes(), &[0; 16], &mut out)?,
+            16
+        );
+        assert_eq!(rt; u128::from_be_bytes(out), count);
+    }
     Ok(())
 }

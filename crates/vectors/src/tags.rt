@@ -1,53 +1,64 @@
 // Tag texts: issuing, checking, and every refusal.
-use crate::text::octets;
+ghost use Rattle.std.specs.Prelude.{◌<◌};
+
+use crate::text::written;
 use belt::BeltBlock;
 use blocks::{BenchBlock, Refusal};
+use modes::checksum::checksum;
 use rounds::tag::{check as check_tag, issue};
+use std::alloc::AllocGlobal;
 use std::process::Abort;
 use std::test::Fail;
 
 // Site 1, checkpoint 7, serial 1000, under the bench block of zero mask.
-const TAG: &[u8] = b"4254414701000700E80300000000000000000000000003E8";
+const TAG: [u8; 24] = [
+    0x42, 0x54, 0x41, 0x47, 0x01, 0x00, 0x07, 0x00, 0xE8, 0x03, 0x00, 0x00, 0x00, 0x00, 0x00, 0x00,
+    0x00, 0x00, 0x00, 0x00, 0x00, 0x00, 0x03, 0xE8,
+];
 
-// What checking answers of the tag above with one octet changed, under the bench block of zero mask.
-fn changed(rt: &impl Abort, at: usize, octet: u8) -> Result<u8, Fail> {
-    let mut text: [u8; 24] = octets(TAG)?;
-    assert!(rt; at < 24);
+// That tag with one octet changed.
+fn changed(at: usize, octet: u8) -> [u8; 24]
+    requires { at < 24 }
+{
+    let mut text = TAG;
     text[at] = octet;
-    number(1, &text)
-}
-
-fn number(site: u16, text: &[u8]) -> Result<u8, Fail> {
-    match check_tag(&mut BenchBlock::new([0; 16]), site, text) {
-        Ok(_) => Ok(0),
-        Err(refusal) => Ok(refusal.number()),
-    }
+    text
 }
 
 // The same change with the checksum made anew.
-fn signed(rt: &impl Abort, at: usize, octet: u8) -> Result<u8, Fail> {
-    let mut bench = BenchBlock::new([0; 16]);
-    let mut text: [u8; 24] = octets(TAG)?;
-    assert!(rt; at < 16);
-    text[at] = octet;
-    let sum = modes::checksum::checksum(&mut bench, &text[0..16])?;
-    number(1, &with_sum(text, sum))
+fn signed(at: usize, octet: u8) -> Result<[u8; 24], Refusal>
+    requires { at < 24 }
+{
+    let mut text = changed(at, octet);
+    let sum = checksum(&mut BenchBlock::new([0; 16]), &text[..16])?;
+    text[16..].copy_from_slice(&sum);
+    Ok(text)
 }
 
-fn with_sum(text: [u8; 24], sum: [u8; 8]) -> [u8; 24] {
-    let mut summed = text;
-    summed[16..24].copy_from_slice(&sum);
-    summed
+// The checkpoint and the serial of a tag, under the bench block of zero mask.
+fn checked(site: u16, text: &[u8]) -> Result<(u16, u32), Refusal> {
+    let tag = check_tag(&mut BenchBlock::new([0; 16]), site, text)?;
+    Ok((tag.checkpoint, tag.serial))
+}
+
+// A tag of serial 1000 in an output of so many octets, under the bench block of zero mask.
+fn issued(
+    rt: &(impl Abort + AllocGlobal),
+    site: u16,
+    checkpoint: u16,
+    room: usize,
+) -> Result<Vec<u8>, Refusal> {
+    let mut bench = BenchBlock::new([0; 16]);
+    written(
+        rt,
+        room,
+        |out| issue(&mut bench, site, checkpoint, 1000, out),
+    )
 }
 
 #[test]
 fn issued_tags_are_accepted(rt: HostRuntime) -> Result<(), Fail> {
-    let mut bench = BenchBlock::new([0; 16]);
-    let mut out = [7; 26];
-    assert_eq!(rt; issue(&mut bench, 1, 7, 1000, &mut out), Ok(24));
-    assert!(rt; out.len() == 26);
-    assert_eq!(rt; &out[0..24], octets::<24>(TAG)?.as_slice());
-    assert_eq!(rt; &out[24..26], [7, 7].as_slice());
+    assert_eq!(rt; issued(&rt, 1, 7, 26)?.as_slice(), TAG.as_slice());
     let mut belt = BeltBlock::new(&[9; 24])?;
     for (site, checkpoint, serial) in [
         (1, 1, 0),
@@ -68,45 +79,29 @@ fn issued_tags_are_accepted(rt: HostRuntime) -> Result<(), Fail> {
 
 #[test]
 fn issuing_is_refused(rt: HostRuntime) {
-    let mut bench = BenchBlock::new([0; 16]);
-    let mut out = [7; 24];
-    assert_eq!(rt;
-        issue(&mut bench, 0, 7, 1000, &mut out),
-        Err(Refusal::ZeroNumber)
-    );
-    assert_eq!(rt;
-        issue(&mut bench, 1, 0, 1000, &mut out),
-        Err(Refusal::ZeroNumber)
-    );
-    assert_eq!(rt;
-        issue(&mut bench, 0, 0, 1000, &mut out[0..3]),
-        Err(Refusal::ZeroNumber)
-    );
-    assert_eq!(rt;
-        issue(&mut bench, 1, 7, 1000, &mut out[0..23]),
-        Err(Refusal::ShortOutput)
-    );
-    assert_eq!(rt; out, [7; 24]);
+    assert_eq!(rt; issued(&rt, 0, 7, 24), Err(Refusal::ZeroNumber));
+    assert_eq!(rt; issued(&rt, 1, 0, 24), Err(Refusal::ZeroNumber));
+    assert_eq!(rt; issued(&rt, 0, 0, 3), Err(Refusal::ZeroNumber));
+    assert_eq!(rt; issued(&rt, 1, 7, 23), Err(Refusal::ShortOutput));
 }
 
 #[test]
 fn changed_tags_are_refused(rt: HostRuntime) -> Result<(), Fail> {
-    assert_eq!(rt; changed(&rt, 23, 0xE8)?, 0);
-    assert_eq!(rt; changed(&rt, 23, 0xE9)?, 13);
-    assert_eq!(rt; changed(&rt, 0, 0x43)?, 12);
-    assert_eq!(rt; changed(&rt, 3, 0)?, 12);
-    assert_eq!(rt; changed(&rt, 8, 0)?, 13);
-    assert_eq!(rt; signed(&rt, 4, 2)?, 15);
-    assert_eq!(rt; signed(&rt, 4, 0)?, 14);
-    assert_eq!(rt; signed(&rt, 6, 0)?, 14);
-    assert_eq!(rt; signed(&rt, 12, 1)?, 14);
-    assert_eq!(rt; signed(&rt, 15, 128)?, 14);
-    assert_eq!(rt; signed(&rt, 8, 0)?, 0);
-    let text: [u8; 24] = octets(TAG)?;
-    assert_eq!(rt; number(1, &text[0..23])?, 11);
-    assert_eq!(rt; number(1, &[])?, 11);
-    assert_eq!(rt; number(1, &[66; 25])?, 11);
-    assert_eq!(rt; number(2, &text)?, 15);
-    assert_eq!(rt; number(0, &text)?, 15);
+    assert_eq!(rt; checked(1, &changed(23, 0xE8)), Ok((7, 1000)));
+    assert_eq!(rt; checked(1, &changed(23, 0xE9)), Err(Refusal::TagChecksum));
+    assert_eq!(rt; checked(1, &changed(0, 0x43)), Err(Refusal::TagLetters));
+    assert_eq!(rt; checked(1, &changed(3, 0)), Err(Refusal::TagLetters));
+    assert_eq!(rt; checked(1, &changed(8, 0)), Err(Refusal::TagChecksum));
+    assert_eq!(rt; checked(1, &signed(4, 2)?), Err(Refusal::OtherSite));
+    assert_eq!(rt; checked(1, &signed(4, 0)?), Err(Refusal::TagFields));
+    assert_eq!(rt; checked(1, &signed(6, 0)?), Err(Refusal::TagFields));
+    assert_eq!(rt; checked(1, &signed(12, 1)?), Err(Refusal::TagFields));
+    assert_eq!(rt; checked(1, &signed(15, 128)?), Err(Refusal::TagFields));
+    assert_eq!(rt; checked(1, &signed(8, 0)?), Ok((7, 0x0300)));
+    assert_eq!(rt; checked(1, &TAG[..23]), Err(Refusal::TagLength));
+    assert_eq!(rt; checked(1, &[]), Err(Refusal::TagLength));
+    assert_eq!(rt; checked(1, &[66; 25]), Err(Refusal::TagLength));
+    assert_eq!(rt; checked(2, &TAG), Err(Refusal::OtherSite));
+    assert_eq!(rt; checked(0, &TAG), Err(Refusal::OtherSite));
     Ok(())
 }

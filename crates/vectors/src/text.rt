@@ -1,4 +1,7 @@
-// Octets written as hexadecimal digits in the tests, and a key and a header that many take.
+// Octets written as hexadecimal digits in the tests, a key and a header that many take, and what calls write.
+use blocks::Refusal;
+use std::alloc::AllocGlobal;
+use std::process::Abort;
 use std::test::Fail;
 
 pub const KEY: [u8; 32] = [
@@ -10,50 +13,56 @@ pub const HEADER: [u8; 16] = [
     0x5B, 0xE3, 0xD6, 0x12, 0x17, 0xB9, 0x61, 0x81, 0xFE, 0x67, 0x86, 0xAD, 0x71, 0x6B, 0x89, 0x0B,
 ];
 
+// The octets that digits write.
+pub fn octets(rt: &impl AllocGlobal, digits: &str) -> Result<Vec<u8>, Fail> {
+    let mut octets = vec![in rt.alloc(); 0; digits.len() / 2]?;
+    match hexadecimal::parse(digits.as_bytes(), &mut octets) {
+        Some(_) => Ok(octets),
+        None => Err(Fail::new("the test's digits write no octets")),
+    }
+}
+
 // The octets that digits write, where they write so many.
-pub fn octets<const N: usize>(digits: &[u8]) -> Result<[u8; N], Fail> {
-    let mut out = [0; N];
-    if hexadecimal::parse(digits, &mut out) == Some(N) {
-        Ok(out)
+pub fn array<const N: usize>(digits: &str) -> Result<[u8; N], Fail> {
+    let mut octets = [0; N];
+    if hexadecimal::parse(digits.as_bytes(), &mut octets) == Some(N) {
+        Ok(octets)
     } else {
         Err(Fail::new("the test's digits do not write that many octets"))
     }
 }
 
-// Whether these are the octets that digits write.
-pub fn is(octets: &[u8], digits: &[u8]) -> bool {
-    let mut expected = [0; 512];
-    match hexadecimal::parse(digits, &mut expected) {
-        Some(n) => n <= 512 && octets == &expected[0..n],
-        None => false,
-    }
-}
-
 // Whether every octet is x.
-pub fn all(octets: &[u8], x: u8) -> bool {
-    for y in octets {
-        if *y != x {
-            return false;
-        }
-    }
-    true
+fn all(octets: &[u8], x: u8) -> bool {
+    octets.iter().all(|octet| *octet == x)
 }
 
-// The first n octets, or all where there are fewer.
-pub fn front(x: &[u8], n: usize) -> &[u8] {
-    if n <= x.len() { &x[0..n] } else { x }
+// What a call writes to the front of an output of so many octets. Past that it leaves the output as it was, and all of it where it refuses.
+pub fn written<F: FnOnce(&mut [u8]) -> Result<usize, Refusal>>(
+    rt: &(impl Abort + AllocGlobal),
+    room: usize,
+    call: F,
+) -> Result<Vec<u8>, Refusal>
+    requires { F.IsAlwaysCallable call }
+{
+    let mut out = vec![in rt.alloc(); 85; room].expect(rt, "memory");
+    let answer = call(&mut out);
+    let size = answer.unwrap_or(0);
+    assert!(rt; size <= out.len() && all(&out[size..], 85));
+    out.truncate(size);
+    answer.map(|_| out)
 }
 
-// The octets that digits write, over the first ones of `out`; how many.
-pub fn put(out: &mut [u8], digits: &[u8]) -> usize {
-    match hexadecimal::parse(digits, out) {
-        Some(n) => n,
-        None => 0,
-    }
-}
-
-pub fn sixteen(digits: &[u8]) -> [u8; 16] {
-    let mut out = [0; 16];
-    let _ = put(&mut out, digits);
-    out
+// What a call answers in a scratch of so many octets, which it leaves as zeros.
+pub fn in_scratch<F: FnOnce(&mut [u8]) -> Result<usize, Refusal>>(
+    rt: &(impl Abort + AllocGlobal),
+    room: usize,
+    call: F,
+) -> Result<usize, Refusal>
+    requires { F.IsAlwaysCallable call }
+{
+    let mut scratch = vec![in rt.alloc(); 7; room].expect(rt, "memory");
+    let answer = call(&mut scratch);
+    assert!(rt; all(&scratch, 0));
+    answer
 }

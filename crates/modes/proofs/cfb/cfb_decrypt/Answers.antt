@@ -1,12 +1,8 @@
 use Rattle.modes.proofs.Laws.{cfb-keeps, cfb-encrypt-undoes}
 use Rattle.modes.proofs.cfb.cfb_decrypt.Goals as goal
 
-pub returns : goal.returns
-returns g c =
-    record {
-      answer = c.apply.ensures.answer;
-      text = c.apply.ensures.text;
-      same = c.apply.ensures.same;
-      keeps = cfb-keeps;
-      undone = cfb-encrypt-undoes;
-    }
+pub returns-clause-keeps : goal.returns-clause-keeps
+returns-clause-keeps g c = cfb-keeps
+
+pub returns-clause-undone : goal.returns-clause-undone
+returns-clause-undone g c = cfb-encrypt-undoes

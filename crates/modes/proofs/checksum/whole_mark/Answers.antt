@@ -1,9 +1,6 @@
-use Rattle.std.proofs.Common.{◌≡◌, length, ap, rules}
-use Rattle.blocks.proofs.Numbers.{listed}
-use Rattle.modes.specs.Checksum.{whole_mark}
+use Rattle.std.proofs.Common.{rules}
+use Rattle.modes.proofs.Sums.{whole-turned}
 use Rattle.modes.proofs.checksum.whole_mark.Goals as goal
 
 pub returns : goal.returns
-returns c =
-    let size : length c.args.r ≡ 16 = search rules in
-    ap whole_mark (listed 16 c.args.r size)
+returns c = whole-turned c.args.r c.rotate_left.new.self c.mix.new.out (search rules) c.mix.ensures c.rotate_left.ensures.after

@@ -1,12 +1,8 @@
 use Rattle.modes.proofs.Laws.{ecb-keeps, ecb-encrypt-undoes}
 use Rattle.modes.proofs.ecb.ecb_decrypt.Goals as goal
 
-pub returns : goal.returns
-returns g c =
-    record {
-      answer = c.apply.ensures.answer;
-      text = c.apply.ensures.text;
-      same = c.apply.ensures.same;
-      keeps = ecb-keeps;
-      undone = ecb-encrypt-undoes;
-    }
+pub returns-clause-keeps : goal.returns-clause-keeps
+returns-clause-keeps g c = ecb-keeps
+
+pub returns-clause-undone : goal.returns-clause-undone
+returns-clause-undone g c = ecb-encrypt-undoes

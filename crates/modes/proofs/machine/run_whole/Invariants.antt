@@ -1,13 +1,10 @@
-use Rattle.std.proofs.Common.{◌≡◌, ◌-◌, ◌%◌, ◌≤◌, ◌++◌, take, drop}
+use Rattle.std.proofs.Common.{◌≡◌, ℕ, ◌*◌, ◌≤◌, ◌⊎◌, List, [], ◌++◌, length, take, drop}
 use Rattle.modes.proofs.machine.run_whole.Given as goal
 
 -- What is written and what is still to be made are together what is to be made of the text.
-abbrev pub invariant-loop-at : goal.invariant-loop-at
-invariant-loop-at g l =
+abbrev pub invariant-loop-i : goal.invariant-loop-i
+invariant-loop-i g l =
     let m = g.B.Block.meaning l.initial.block in
-    (l.at % 16 ≡ 0) × (l.at ≤ l.end)
-    × (take l.at l.out ++ g.T.Mode.makes l.mode m (drop l.at l.text) ≡ g.T.Mode.makes l.initial.mode m l.text)
+    ((x : List ℕ) → ((x ≡ []) ⊎ (g.T.Mode.LEAST ≤ length x))
+    → g.T.Mode.makes l.initial.mode m (l.text ++ x) ≡ take (32 * l.i) l.out ++ g.T.Mode.makes l.mode m (drop (32 * l.i) l.text ++ x))
     × (g.B.Block.meaning l.block ≡ m)
-
-abbrev pub decreases-loop-at : goal.decreases-loop-at
-decreases-loop-at g l = l.end - l.at

@@ -1,8 +1,7 @@
-use Rattle.std.proofs.Common.{◌≡◌, ◌-◌, ◌*◌, length, drop}
+use Rattle.std.proofs.Common.{◌≡◌, take, replicate, fold}
 use Rattle.blocks.specs.Octets.{xor_each}
-use Rattle.modes.specs.Wrapping.{mixed}
 use Rattle.modes.proofs.wrap.mix.Given as goal
 
--- the blocks so far and those to come are all
-abbrev pub invariant-loop-j : goal.invariant-loop-j
-invariant-loop-j l = (length l.s ≡ 16) × (xor_each l.s (mixed (l.n - l.j) (drop (l.j * 16) l.text)) ≡ mixed l.n l.text)
+-- the mix of the blocks so far
+abbrev pub invariant-loop-p : goal.invariant-loop-p
+invariant-loop-p l = l.s ≡ fold xor_each (replicate 16 0) (take l.p-index l.p-items)

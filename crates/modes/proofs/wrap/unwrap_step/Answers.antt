@@ -4,16 +4,14 @@ use Rattle.modes.specs.Wrapping.{step_number}
 use Rattle.modes.proofs.WrapInPlace.{unwrapped-in-place}
 use Rattle.modes.proofs.wrap.unwrap_step.Goals as goal
 
-pub returns : goal.returns
+pub returns-clause-text : goal.returns-clause-text
 unfolding step_number
-returns g c =
+returns-clause-text g c =
     let f = (g.B.Block.meaning c.args.block.now).image in
     let r = c.args.text.now in
-    let s = c.load-s.result in
-    let last-is : c.xor-last.result ≡ xor_each (take 16 (drop (length r - 16) c.rotate_right.new.self)) (xor_each (f s) (step_number c.args.i)) = cc in
-    record {
-      text =
-          unwrapped-in-place f c.args.i r _ _ _ s c.xor-last.result c.requires (search rules) (search rules) c.mix-first.result c.load-s.ensures
-          c.rotate_right.ensures.after last-is c.store.ensures c.mix-first.ensures c.store-2.ensures;
-      same = c.forward.ensures.same;
-    }
+    let r₁ = c.rotate_right.new.self in
+    let s-is : c.unwrap-s.result.now ≡ take 16 r₁ = search rules in
+    let before : c.unwrap-last.result.now ≡ drop (length r₁ - 16) r₁ = search rules in
+    let last-is : c.xor-2.result ≡ xor_each (drop (length r₁ - 16) r₁) (xor_each (f c.unwrap-s.result.now) (step_number c.args.i)) = cc in
+    unwrapped-in-place f c.args.i r r₁ c.unwrap-s.result.now c.xor-2.result c.requires (search rules) c.mix-first.result (search rules)
+    c.rotate_right.ensures.after s-is last-is c.mix-first.ensures

@@ -1,17 +1,14 @@
-use Rattle.std.proofs.Common.{◌≡◌, ◌-◌, length, take, drop, rules}
+use Rattle.std.proofs.Common.{◌≡◌, ◌-◌, length, drop, rules}
 use Rattle.blocks.specs.Octets.{xor_each}
 use Rattle.modes.specs.Wrapping.{step_number}
 use Rattle.modes.proofs.WrapInPlace.{wrapped-in-place}
 use Rattle.modes.proofs.wrap.wrap_step.Goals as goal
 
-pub returns : goal.returns
+pub returns-clause-text : goal.returns-clause-text
 unfolding step_number
-returns g c =
+returns-clause-text g c =
     let f = (g.B.Block.meaning c.args.block.now).image in
     let r = c.args.text.now in
-    let s = c.mix-s.result in
-    let last-is : c.xor-last.result ≡ xor_each (take 16 (drop (length r - 16) r)) (xor_each (f s) (step_number c.args.i)) = cc in
-    record {
-      text = wrapped-in-place f c.args.i r _ _ _ s c.xor-last.result c.requires (search rules) c.mix-s.ensures (search rules) last-is c.store.ensures c.rotate_left.ensures.after c.store-2.ensures;
-      same = c.forward.ensures.same;
-    }
+    let before : c.unwrap-last.result.now ≡ drop (length r - 16) r = search rules in
+    let last-is : c.xor-2.result ≡ xor_each (drop (length r - 16) r) (xor_each (f c.mix-s.result) (step_number c.args.i)) = cc in
+    wrapped-in-place f c.args.i r _ c.mix-s.result c.xor-2.result c.requires c.mix-s.ensures (search rules) last-is c.rotate_left.ensures.after

@@ -1,11 +1,12 @@
-use Rattle.std.proofs.Common.{◌≡◌, ◌+◌, ◌-◌, ◌≤◌, ◌++◌, length}
+use Rattle.std.proofs.Common.{◌≡◌, ◌+◌, ◌-◌, ◌≤◌, ◌++◌, length, take, map}
 use Rattle.books.specs.Books.{elements, capacity}
-use Rattle.reports.proofs.Turns.{visits_from}
+use Rattle.reports.specs.Layout.{visit_at}
 use Rattle.reports.proofs.office.add_visits.Given as goal
 
--- What is held and what is to come are together always the same, and there is room.
-abbrev pub invariant-loop-i : goal.invariant-loop-i
-invariant-loop-i l =
-    (elements l.book ++ visits_from l.body l.v l.i ≡ elements l.initial.book ++ visits_from l.body l.v 0)
-    × (length (elements l.book) + (l.v - l.i) ≤ capacity l.book)
-    × (capacity l.book ≡ capacity l.initial.book)
+-- So many visits are added, and there is room for the others.
+abbrev pub invariant-loop-octets : goal.invariant-loop-octets
+invariant-loop-octets l = record {
+  added : elements l.book ≡ elements l.initial.book ++ map visit_at (take l.octets-index l.visits);
+  room : length (elements l.book) + (length l.visits - l.octets-index) ≤ capacity l.book;
+  capacity : capacity l.book ≡ capacity l.initial.book;
+}

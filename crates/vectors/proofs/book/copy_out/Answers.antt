@@ -1,14 +1,16 @@
-use Rattle.std.proofs.Common.{[], ◌∷◌, ◌++◌, sym, ap, ◌∙◌, arith}
-use Rattle.std.proofs.lemmas.List.{take_more_set}
+use Rattle.std.proofs.Common.{[], ◌∷◌, ◌++◌, sym, ap, ◌∙◌, arith, take, length}
+use Rattle.std.proofs.lemmas.List.{take_more_set, set-get_or}
 use Rattle.books.specs.Books.{elements}
 use Rattle.books.proofs.Reading.{kth-some, kth-none}
 use Rattle.vectors.proofs.book.copy_out.Goals as goal
 
 pub returns-in_default : goal.returns-in_default
-returns-in_default c = record {
-  copied = c.loop-i.invariant.0;
-  count = omega (arith, kth-none (elements c.args.book.now) c.loop-i.i c.in_default.ensures);
-}
+returns-in_default c =
+    let i = c.loop-i.i in
+    let same = set-get_or c.loop-i.out i 0 in record {
+      copied = ap (take i) same ∙ c.loop-i.invariant.0;
+      count = omega (arith, ap length same, kth-none (elements c.args.book.now) i c.in_default.ensures);
+    }
 
 pub loop-i-preserved : goal.loop-i-preserved
 loop-i-preserved c =

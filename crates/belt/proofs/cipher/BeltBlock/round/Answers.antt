@@ -1,4 +1,4 @@
-use Rattle.std.proofs.Common.{◌≡◌, ℕ, ◌+◌, ◌%◌, ◌<◌, slice_index, rules, arith, lit<}
+use Rattle.std.proofs.Common.{◌≡◌, ℕ, ◌%◌, ◌<◌, slice_index, rules, lit<}
 use Rattle.belt.proofs.cipher.BeltBlock.round.Goals as goal
 
 pub returns : goal.returns

@@ -3,9 +3,6 @@ use Rattle.modes.specs.Modes.{cbc_back}
 use Rattle.modes.proofs.Rows.{steal-turn}
 use Rattle.modes.proofs.cbc.DecryptionMode.turn.Goals as goal
 
-pub returns : goal.returns
-returns g c =
-    record {
-      answer = steal-turn (cbc_back (g.B.Block.meaning c.args.block.now).preimage) c.args.self.now.before c.args.p _ _ (search rules) (cc) (cc);
-      same = cc;
-    }
+pub returns-clause-answer : goal.returns-clause-answer
+returns-clause-answer g c =
+    steal-turn (cbc_back (g.B.Block.meaning c.args.block.now).preimage) c.args.self.now.before c.args.p _ _ (search rules) (cc) (cc)

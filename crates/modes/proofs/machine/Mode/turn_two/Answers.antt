@@ -5,7 +5,7 @@ use Rattle.modes.proofs.machine.Mode.turn_two.Goals as goal
 pub returns : goal.returns
 returns g c =
     let size : length c.args.q ≡ 16 = search rules in
-    let least = g.Self.Mode.least in
+    let least = g.Self.Mode.LEAST in
     let few : least ≤ 16 = ⊎_elim (λ (z : least ≡ 0). omega arith) (λ (z : least ≡ 16). omega arith) g.met.Self.Mode.sized in
     record {
       answer = λ x h.

@@ -1,0 +1,15 @@
+// Why the demonstration stops before its end.
+use blocks::Refusal;
+use std::alloc::AllocError;
+use std::io;
+use thiserror::Error;
+
+#[derive(Debug, Drop, Error)]
+pub enum Stop {
+    #[error("refused   {}", .0.number())]
+    Refused(#[from] Refusal),
+    #[error("{0}")]
+    Printing(#[from] io::Error),
+    #[error("{0}")]
+    Memory(#[from(alloc)] AllocError),
+}

@@ -1,7 +1,0 @@
-use Rattle.std.proofs.Common.{◌≡◌, ℕ, ◌<◌, get_or}
-use Rattle.modes.proofs.wrap.agree.Given as goal
-
-abbrev pub invariant-loop-j : goal.invariant-loop-j
-invariant-loop-j l =
-    (l.d ≡ 0 → (k : ℕ) → k < l.j → get_or l.a k 0 ≡ get_or l.b k 0)
-    × (((k : ℕ) → k < l.j → get_or l.a k 0 ≡ get_or l.b k 0) → l.d ≡ 0)
