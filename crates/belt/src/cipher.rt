@@ -76,7 +76,7 @@ fn word(octets: &[u8], at: usize) -> u32
     requires { at + 4 ≤ length octets.now }
     ensures { result ≡ word_at octets.now at }
 {
-    u32::number(&[octets[at], octets[at + 1], octets[at + 2], octets[at + 3]])
+    u32::number(octets[at..].first_chunk().unwrap())
 }
 
 fn load(x: [u8; 16]) -> Quad
