@@ -11,7 +11,7 @@ use crate::parts::{filled, store_two};
 use blocks::octets::xor;
 use blocks::{Block, Refusal};
 
-// Keeps the answer before.
+// Keeps the answer before. (No twin of decryption: there the mix comes after the step, and another piece is kept and lent.)
 #[derive(Drop)]
 struct Encryption {
     before: [u8; 16],

@@ -116,6 +116,7 @@ fn run_whole<T: Mode, B: Block>(mode: &mut T, block: &mut B, text: &[u8], out: &
     ensures same { B.meaning block.new ≡ B.meaning block.old }
 {
     let (pairs, odd) = whole_pieces(text).as_chunks::<2>();
+    // Written by place: after a write through `chunks_exact_mut` nothing is known of `out`.
     for (i, [p, q]) in pairs.iter().enumerate() {
         let (c, d) = mode.turn_two(block, *p, *q);
         store_two(&mut out[32 * i..32 * i + 32], c, d);

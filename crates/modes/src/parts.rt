@@ -36,6 +36,7 @@ pub(crate) fn mix(text: &[u8], key: [u8; 16], out: &mut [u8])
     requires { (length text.now ≤ 16) × (length out.old ≡ length text.now) }
     ensures { out.new ≡ xor_each text.now key }
 {
+    // Written by place: after a write through `iter_mut().zip` nothing is known of `out`.
     for (j, x) in text.iter().enumerate() {
         out[j] = x ^ key[j];
     }

@@ -21,6 +21,7 @@ fn mix(text: &[u8]) -> [u8; 16]
 {
     let mut s = [0; 16];
     for p in whole_pieces(&text[..text.len() - 1]) {
+        // Two lines, and no fold: of a call's result laid over its argument, and of a closure around `xor`, no proof is generated.
         let next = xor(s, *p);
         s = next;
     }
@@ -136,6 +137,7 @@ pub fn unwrap<B: Block>(
 }
 
 // The work of unwrapping, which leaves octets of the key text in the scratch.
+// Five parameters: a struct of them would be made and taken apart once in each call, and each caller has them apart.
 fn unwrap_in<B: Block>(
     block: &mut B,
     header: [u8; 16],

@@ -64,7 +64,7 @@ fn wraps_of_odd_lengths(rt: HostRuntime) -> Result<(), Fail> {
     Ok(())
 }
 
-// 16 octets longer.
+// A wrapped text is 16 octets longer than its key text.
 #[test]
 fn every_length_comes_back(rt: HostRuntime) -> Result<(), Fail> {
     let text = sample();
@@ -114,9 +114,7 @@ fn unwrap_refuses_a_short_output(rt: HostRuntime) -> Result<(), Fail> {
     let text = wraps(&rt, &sample(), 272)?;
     assert_eq!(rt; unwraps(&rt, &text, 272, 255), Err(Refusal::ShortOutput));
     assert_eq!(rt; unwraps(&rt, &text, 271, 272), Err(Refusal::ShortOutput));
-    let Some(front) = text.get(..32) else {
-        return Err(Fail::new("short"));
-    };
+    let front = text.get(..32).expect(&rt, "a wrapped text");
     assert_eq!(rt; unwraps(&rt, front, 272, 15), Err(Refusal::ShortOutput));
     Ok(())
 }
