@@ -38,6 +38,7 @@ pub trait Number {
         ensures undone { number (listed result) ≡ value self };
 }
 
+// An impl for each width: the language's conversions are each type's own.
 impl Number for u16 {
     type Octets = [u8; 2];
 

@@ -65,7 +65,8 @@ fn admit(least: usize, size: usize, room: usize) -> Result<usize, Refusal>
     Ok(size)
 }
 
-// Puts a message through a mode, or says what forbids it.
+// Puts a message through a mode, or says what forbids it: the one function that the public calls of the modes are instances of. They
+// stay named for each mode and way, since the theorems of each stand on its own contract, and a clause cannot name a trait's law.
 pub(crate) fn apply<T: Mode, B: Block>(
     mode: &mut T,
     block: &mut B,
@@ -104,7 +105,7 @@ fn run<T: Mode, B: Block>(mode: &mut T, block: &mut B, text: &[u8], out: &mut [u
     let end = whole(text.len(), T::LEAST);
     let (front, rest) = text.split_at(end);
     run_whole(mode, block, front, &mut out[..end]);
-    if rest.len() > 0 {
+    if !rest.is_empty() {
         mode.finish(block, rest, &mut out[end..]);
     }
 }

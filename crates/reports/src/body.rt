@@ -6,7 +6,7 @@ ghost use Rattle.reports.specs.Faults.{unless, or_else, in_body};
 ghost use Rattle.blocks.specs.declared.answers.Refusal.TheVariants.{ReportHeader};
 ghost use Rattle.reports.specs.Opening.{head_fault, visits_fault};
 
-use crate::fault::Fault;
+use crate::fault::{Fault, Layer};
 use crate::visit::{HEAD, Header, LETTERS, MOST_NUMBER, VISIT, Visit};
 use blocks::Refusal;
 use blocks::octets::Number;
@@ -49,7 +49,7 @@ impl<'a> Body<'a> {
         for (i, octets) in self.visits.iter().enumerate() {
             let visit = Visit::from_octets(octets);
             if !visit.is_lawful(last) {
-                return Err(Fault::in_body(Refusal::UnlawfulVisit, HEAD + VISIT * i));
+                return Err(Layer::Body.fault(Refusal::UnlawfulVisit, HEAD + VISIT * i));
             }
             last = visit.read;
         }
@@ -61,7 +61,7 @@ impl<'a> Body<'a> {
 fn wrong(place: usize) -> Fault
     ensures { result ≡ in_body ReportHeader place }
 {
-    Fault::in_body(Refusal::ReportHeader, place)
+    Layer::Body.fault(Refusal::ReportHeader, place)
 }
 
 // What stands before so many visits, or the first field that is wrong.

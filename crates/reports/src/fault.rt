@@ -1,6 +1,6 @@
 // Faults: what is wrong with a report that was refused, in which layer, and where.
 ghost use Rattle.std.specs.Prelude.{◌≡◌};
-ghost use Rattle.reports.specs.Faults.{layer_number, in_text, in_body, in_book};
+ghost use Rattle.reports.specs.Faults.{layer_number};
 
 use blocks::Refusal;
 
@@ -22,6 +22,17 @@ impl Layer {
     {
         self as u8
     }
+
+    // A fault of this layer, at a place.
+    pub(crate) fn fault(self, refusal: Refusal, place: usize) -> Fault
+        ensures { result ≡ record { refusal = refusal; layer = self; place = place } }
+    {
+        Fault {
+            refusal,
+            layer: self,
+            place,
+        }
+    }
 }
 
 impl From<Layer> for u8 {
@@ -38,37 +49,4 @@ pub struct Fault {
     pub refusal: Refusal,
     pub layer: Layer,
     pub place: usize,
-}
-
-impl Fault {
-    // A fault of the text, of the body, or of the book, at a place.
-    pub(crate) fn in_text(refusal: Refusal, place: usize) -> Fault
-        ensures { result ≡ in_text refusal place }
-    {
-        Fault {
-            refusal,
-            layer: Layer::Text,
-            place,
-        }
-    }
-
-    pub(crate) fn in_body(refusal: Refusal, place: usize) -> Fault
-        ensures { result ≡ in_body refusal place }
-    {
-        Fault {
-            refusal,
-            layer: Layer::Body,
-            place,
-        }
-    }
-
-    pub(crate) fn in_book(refusal: Refusal, place: usize) -> Fault
-        ensures { result ≡ in_book refusal place }
-    {
-        Fault {
-            refusal,
-            layer: Layer::Book,
-            place,
-        }
-    }
 }

@@ -10,7 +10,7 @@ ghost use Rattle.reports.specs.Opening.{count_of, sized, front_part, body_in, de
 ghost use Rattle.reports.specs.Exact.{OpensExactly};
 
 use crate::body::Body;
-use crate::fault::Fault;
+use crate::fault::{Fault, Layer};
 use crate::sealing::{MOST_BODY, START, SUM, Sealer, decipher, start_of, sum_of};
 use crate::visit::{HEAD, Header, MOST_VISITS, VISIT, Visit};
 use blocks::{Block, Refusal};
@@ -42,7 +42,7 @@ impl<'a> Text<'a> {
         if v <= MOST_VISITS && n == REST + VISIT * v {
             Ok(Text { octets })
         } else {
-            Err(Fault::in_text(Refusal::ReportLength, 0))
+            Err(Layer::Text.fault(Refusal::ReportLength, 0))
         }
     }
 
@@ -96,7 +96,7 @@ impl<S: Block, C: Block> Sealer<'_, S, C> {
         let visits = Body::of(body).visits;
         let free = book.free();
         if visits.len() > free {
-            return Err(Fault::in_book(Refusal::TooFewCells, free));
+            return Err(Layer::Book.fault(Refusal::TooFewCells, free));
         }
         add_visits(book, visits);
         Ok(Opened {
@@ -116,14 +116,14 @@ impl<S: Block, C: Block> Sealer<'_, S, C> {
         let sum = sum_of(self.check, text.front());
         if *text.sum() != sum {
             let place = text.front().len();
-            return Err(Fault::in_text(Refusal::ReportChecksum, place));
+            return Err(Layer::Text.fault(Refusal::ReportChecksum, place));
         }
         let start = *text.start();
         decipher(self.seal, start, text.body(), body);
         let header = Body::of(body).read()?;
         let right = start_of(self.seal, header);
         if start != right {
-            return Err(Fault::in_text(Refusal::ReportStart, 0));
+            return Err(Layer::Text.fault(Refusal::ReportStart, 0));
         }
         Ok(header)
     }

@@ -42,7 +42,7 @@ pub(crate) fn encipher<S: Block>(seal: &mut S, start: [u8; START], body: &[u8], 
     cbc_encrypt(seal, start, body, out).unwrap();
 }
 
-// Deciphers a body.
+// Deciphers a body. The two ways stay two functions, since the calls below and the definitions above are two.
 #[tactic(auto, using(crate::proofs::Ciphers::all_written), unfolding(crate::specs::Sealing::deciphered))]
 pub(crate) fn decipher<S: Block>(seal: &mut S, start: [u8; START], text: &[u8], out: &mut [u8])
     requires long { (start_size ≤ length text.now) × (length text.now ≤ longest) }

@@ -15,7 +15,7 @@ const LETTERS: [u8; 4] = *b"BTAG";
 const SIZE: usize = 24;
 
 // What a genuine tag says: its door's checkpoint, and its own serial.
-#[derive(Clone, Copy)]
+#[derive(Clone, Copy, Debug, PartialEq, Eq)]
 pub struct Tag {
     pub checkpoint: u16,
     pub serial: u32,
@@ -120,7 +120,8 @@ fn take_apart(text: &[u8]) -> Option<Parts>
     })
 }
 
-// The first rule that the parts break, or the tag; `summed` tells whether the checksum is theirs.
+// The first rule that the parts break, or the tag; `summed` tells whether the checksum is theirs. A `Result` in its place would only be
+// matched here, since the letters are tested before it.
 fn judge(site: u16, summed: bool, parts: Parts) -> Result<Tag, Refusal>
     ensures { result ≡ parts_answer site summed parts }
 {

@@ -5,7 +5,7 @@ use crate::text::written;
 use belt::BeltBlock;
 use blocks::{BenchBlock, Refusal};
 use modes::checksum::checksum;
-use rounds::tag::{check as check_tag, issue};
+use rounds::tag::{Tag, check as check_tag, issue};
 use std::alloc::AllocGlobal;
 use std::process::Abort;
 use std::test::Fail;
@@ -35,10 +35,9 @@ fn signed(at: usize, octet: u8) -> Result<[u8; 24], Refusal>
     Ok(text)
 }
 
-// The checkpoint and the serial of a tag, under the bench block of zero mask.
-fn checked(site: u16, text: &[u8]) -> Result<(u16, u32), Refusal> {
-    let tag = check_tag(&mut BenchBlock::new([0; 16]), site, text)?;
-    Ok((tag.checkpoint, tag.serial))
+// What checking answers under the bench block of zero mask.
+fn checked(site: u16, text: &[u8]) -> Result<Tag, Refusal> {
+    check_tag(&mut BenchBlock::new([0; 16]), site, text)
 }
 
 // A tag of serial 1000 in an output of so many octets, under the bench block of zero mask.
@@ -70,9 +69,10 @@ fn issued_tags_are_accepted(rt: HostRuntime) -> Result<(), Fail> {
             issue(&mut belt, site, checkpoint, serial, &mut text),
             Ok(24)
         );
-        let tag = check_tag(&mut belt, site, &text)?;
-        assert_eq!(rt; tag.checkpoint, checkpoint);
-        assert_eq!(rt; tag.serial, serial);
+        assert_eq!(rt;
+            check_tag(&mut belt, site, &text),
+            Ok(Tag { checkpoint, serial })
+        );
     }
     Ok(())
 }
@@ -87,7 +87,13 @@ fn issuing_is_refused(rt: HostRuntime) {
 
 #[test]
 fn changed_tags_are_refused(rt: HostRuntime) -> Result<(), Fail> {
-    assert_eq!(rt; checked(1, &changed(23, 0xE8)), Ok((7, 1000)));
+    assert_eq!(rt;
+        checked(1, &changed(23, 0xE8)),
+        Ok(Tag {
+            checkpoint: 7,
+            serial: 1000
+        })
+    );
     assert_eq!(rt; checked(1, &changed(23, 0xE9)), Err(Refusal::TagChecksum));
     assert_eq!(rt; checked(1, &changed(0, 0x43)), Err(Refusal::TagLetters));
     assert_eq!(rt; checked(1, &changed(3, 0)), Err(Refusal::TagLetters));
@@ -97,7 +103,13 @@ fn changed_tags_are_refused(rt: HostRuntime) -> Result<(), Fail> {
     assert_eq!(rt; checked(1, &signed(6, 0)?), Err(Refusal::TagFields));
     assert_eq!(rt; checked(1, &signed(12, 1)?), Err(Refusal::TagFields));
     assert_eq!(rt; checked(1, &signed(15, 128)?), Err(Refusal::TagFields));
-    assert_eq!(rt; checked(1, &signed(8, 0)?), Ok((7, 0x0300)));
+    assert_eq!(rt;
+        checked(1, &signed(8, 0)?),
+        Ok(Tag {
+            checkpoint: 7,
+            serial: 0x0300
+        })
+    );
     assert_eq!(rt; checked(1, &TAG[..23]), Err(Refusal::TagLength));
     assert_eq!(rt; checked(1, &[]), Err(Refusal::TagLength));
     assert_eq!(rt; checked(1, &[66; 25]), Err(Refusal::TagLength));

@@ -15,21 +15,16 @@ pub const HEADER: [u8; 16] = [
 
 // The octets that digits write.
 pub fn octets(rt: &impl AllocGlobal, digits: &str) -> Result<Vec<u8>, Fail> {
-    let mut octets = vec![in rt.alloc(); 0; digits.len() / 2]?;
-    match hexadecimal::parse(digits.as_bytes(), &mut octets) {
-        Some(_) => Ok(octets),
-        None => Err(Fail::new("the test's digits write no octets")),
-    }
+    hexadecimal::decode(rt.alloc(), digits.as_bytes())?.ok_or_else(|| Fail::new(
+        "the test's digits write no octets",
+    ))
 }
 
 // The octets that digits write, where they write so many.
 pub fn array<const N: usize>(digits: &str) -> Result<[u8; N], Fail> {
-    let mut octets = [0; N];
-    if hexadecimal::parse(digits.as_bytes(), &mut octets) == Some(N) {
-        Ok(octets)
-    } else {
-        Err(Fail::new("the test's digits do not write that many octets"))
-    }
+    hexadecimal::decode_array(digits.as_bytes()).ok_or_else(|| Fail::new(
+        "the test's digits do not write that many octets",
+    ))
 }
 
 // Whether every octet is x.

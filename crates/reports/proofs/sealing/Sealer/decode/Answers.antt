@@ -25,7 +25,7 @@ returns-then-ne-2-clause-answer g c =
     let x = c.decipher.new.out in
     let kept = sum-kept m t c.sum.result.now c.sum_of-sum.result c.front.result.now c.sum.ensures c.front.ensures c.sum_of-sum.ensures.answer c.if-ne.ensures in
     let is = body-is m t c.start.result.now c.body.result.now x c.start.ensures c.body.ensures.part c.decipher.ensures.text in
-    ap Err c.in_text-then-ne-2.ensures
+    ap Err c.fault-then-ne-2.ensures
     ∙ decode-start m t kept c.in_ok-header.header _ c.start.result.now c.start_of-right.result
     (said-is m t x c.of.result.head.now c.of.result.visits.now ((length x - head_size) / visit_size) (Ok c.in_ok-header.header) is (omega arith) c.of.ensures.head c.of.ensures.visits c.in_ok-header.ensures)
     c.start.ensures (c.start_of-right.ensures.answer ∙ ap (λ (q : Step). start_of q c.in_ok-header.header.wand c.in_ok-header.header.number) c.decipher.ensures.same) c.if-ne-2.ensures

@@ -80,7 +80,7 @@ returns-then-visits-free g c =
     let long = (pieces-are v j x x c.of-2.result.visits.now c.of-2.ensures.visits n refl).1 in
     let free : c.free-free.result ≡ free_cells_in b = omega (arith, c.free-free.ensures) in
     let q = h.answer ∙ ap (λ y. decode_answer m (count_of (length y)) y) e in
-    let full : Err c.in_book.result ≡ Err (in_book TooFewCells (free_cells_in b)) = ap Err (c.in_book.ensures ∙ ap (in_book TooFewCells) free) in
+    let full : Err c.fault.result ≡ Err (in_book TooFewCells (free_cells_in b)) = ap Err (c.fault.ensures ∙ ap (in_book TooFewCells) free) in
     let w = opens m law (free_cells_in b) t o (elements b) (elements b) _ _
     (open-room m (free_cells_in b) t c.in_ok-header.header c.in_ok-text.ensures.1 q (omega (arith, c.if-visits-free.true))) full refl in
     record {
