@@ -21,7 +21,7 @@ fn mix(text: &[u8]) -> [u8; 16]
 {
     let mut s = [0; 16];
     for p in whole_pieces(&text[..text.len() - 1]) {
-        // Two lines, and no fold: of a call's result laid over its argument, and of a closure around `xor`, no proof is generated.
+        // No fold, whose closure would need a clause, as it calls `xor`; in two lines, as no proof is generated for a result over its argument.
         let next = xor(s, *p);
         s = next;
     }

@@ -1,6 +1,7 @@
 // The face for the radio firmware: C functions on numbers and octets over the BelT block. Each answers the refusal's number, or zero.
-// C wants a name, plain parameters and a number of each call, so each is a function of its own. A slice is a pointer and a length in C. The crate is a static library, which exports them under their names; include/muchqawi.h says
-// what each function takes and the caller's duties.
+// C wants a name, plain parameters and a number of each call, so each is a function of its own. A slice is a pointer and a length in C.
+// The crate is a static library, which exports them under their names; include/muchqawi.h says what each function takes and the caller's
+// duties.
 #![tactic(auto)]
 
 ghost use Rattle.std.specs.Prelude.{◌≡◌, ℕ, ◌-◌, List, length, take, replicate, if◌then◌else◌, Ok, Err, Result, nat_le};
