@@ -82,7 +82,7 @@ fn derive_one(key: &[u8], i: u8, site: u16, out: &mut [u8])
     requires { (key_length (length key.now) ≡ true) × (length out.old ≡ length key.now) }
     ensures { out.new ≡ kit_key key.now i site }
 {
-    let _ = transform(key, [0; 12], key_header(i, site), key.len(), out);
+    transform(key, [0; 12], key_header(i, site), key.len(), out).unwrap();
 }
 
 fn key_header(i: u8, site: u16) -> [u8; 16]

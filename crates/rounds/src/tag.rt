@@ -41,7 +41,9 @@ pub fn issue<B: Block>(
     }
     let front = head(site, checkpoint, serial);
     let sum = checksum(block, &front)?;
-    out[0..SIZE].copy_from_slice(&join(front, sum));
+    let (text, rest) = out.split_at_mut(16);
+    text.copy_from_slice(&front);
+    rest[..8].copy_from_slice(&sum);
     Ok(SIZE)
 }
 
@@ -54,15 +56,6 @@ fn head(site: u16, checkpoint: u16, serial: u32) -> [u8; 16]
     let [c0, c1] = checkpoint.field();
     let [n0, n1, n2, n3] = serial.field();
     [l0, l1, l2, l3, s0, s1, c0, c1, n0, n1, n2, n3, 0, 0, 0, 0]
-}
-
-fn join(front: [u8; 16], sum: [u8; 8]) -> [u8; 24]
-    ensures { result ≡ front ++ sum }
-{
-    let mut text = [0; 24];
-    text[0..16].copy_from_slice(&front);
-    text[16..24].copy_from_slice(&sum);
-    text
 }
 
 // A tag text taken apart.

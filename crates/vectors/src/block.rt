@@ -86,17 +86,17 @@ fn bench_and_pairs(rt: HostRuntime) -> Result<(), Fail> {
 #[test]
 fn least_octet_first(rt: HostRuntime) -> Result<(), Fail> {
     assert_eq!(rt; u16::number(&[0x34, 0x12]), 0x1234);
-    assert_eq!(rt; 0x1234.field(), [0x34, 0x12]);
+    assert_eq!(rt; 0x1234_u16.field(), [0x34, 0x12]);
     assert_eq!(rt; u32::number(&[0x78, 0x56, 0x34, 0x12]), 0x12345678);
-    assert_eq!(rt; 0x12345678.field(), [0x78, 0x56, 0x34, 0x12]);
+    assert_eq!(rt; 0x12345678_u32.field(), [0x78, 0x56, 0x34, 0x12]);
     assert_eq!(rt; u64::number(&[1, 0, 0, 0, 0, 0, 0, 2]), 0x0200000000000001);
-    assert_eq!(rt; 0x0200000000000001.field(), [1, 0, 0, 0, 0, 0, 0, 2]);
+    assert_eq!(rt; 0x0200000000000001_u64.field(), [1, 0, 0, 0, 0, 0, 0, 2]);
     assert_eq!(rt;
         u128::number(&array("01000000000000000000000000000003")?),
         (3 << 120) + 1
     );
     assert_eq!(rt;
-        ((3 << 120) + 1).field(),
+        ((3_u128 << 120) + 1).field(),
         array("01000000000000000000000000000003")?
     );
     Ok(())
