@@ -25,7 +25,8 @@ fn front<T: Copy>(cells: &mut [Cell<T>]) -> &mut [Cell<T>]
     &mut cells[..n]
 }
 
-// No public call requires anything, and a refusal leaves the book as it was.
+// No public call requires anything, and a refusal leaves the book as it was. That the capacity stays is said of each call that is lent a
+// book: no type says what stands behind a `&mut` afterwards.
 #[tactic(auto, using(crate::proofs::Bound::kept))]
 impl<'a, T: Copy> Book<'a, T> {
     ghost use Rattle.books.specs.Books.{elements, capacity, EachOnOneChain, SameCells};

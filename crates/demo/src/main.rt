@@ -21,16 +21,12 @@ const EXAMPLE_BLOCK: &[u8] = b"B194BAC80A08F53B366D008E584A5DE4";
 const LONGEST: usize = 64;
 
 fn main(rt: HostRuntime) -> anyhow::Result<()> {
-    run(&rt)
-}
-
-fn run(rt: &HostRuntime) -> anyhow::Result<()> {
-    let mut args = env::args(rt)?;
+    let mut args = env::args(&rt)?;
     let _program = args.next();
     match (args.next(), args.next()) {
-        (Some(key), Some(block)) => read(rt, key.as_bytes(), block.as_bytes()),
+        (Some(key), Some(block)) => read(&rt, key.as_bytes(), block.as_bytes()),
         (Some(_), None) => Err(anyhow!("give a key and a block, or nothing")),
-        (None, _) => read(rt, EXAMPLE_KEY, EXAMPLE_BLOCK),
+        (None, _) => read(&rt, EXAMPLE_KEY, EXAMPLE_BLOCK),
     }
 }
 

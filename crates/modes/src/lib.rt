@@ -1,4 +1,5 @@
 // The modes over any block, ECB, CBC, CFB and CTR, and the checksum; wrapping and unwrapping of key texts.
+// The calls take block, message and output side by side: a struct of them would be made for one call and taken apart at once.
 #![tactic(auto)]
 
 pub mod cbc;

@@ -1,7 +1,8 @@
 // Scratch that ends as zeros.
 ghost use Rattle.std.specs.Prelude.{◌≡◌, length, replicate};
 
-// Holds the scratch while the work runs, and zeroes all of it at its end, on every way out.
+// Holds the scratch while the work runs, and zeroes all of it at its end, on every way out. Each call that is lent scratch says so of
+// itself too, since its caller sees no guard.
 pub struct Wipe<'a> {
     pub scratch: &'a mut [u8],
 }

@@ -40,18 +40,14 @@ impl FromStr for Way {
 }
 
 fn main(rt: HostRuntime) -> anyhow::Result<()> {
-    run(&rt)
-}
-
-fn run(rt: &HostRuntime) -> anyhow::Result<()> {
-    let mut args = env::args(rt)?;
+    let mut args = env::args(&rt)?;
     let _program = args.next();
     if let (Some(way), Some(count)) = (args.next(), args.next()) {
         let count = count.as_str().parse()?;
-        return show(rt, way.as_str().parse()?, count);
+        return show(&rt, way.as_str().parse()?, count);
     }
     for way in [Way::One, Way::Two, Way::Back, Way::BackTwo] {
-        show(rt, way, 1000)?;
+        show(&rt, way, 1000)?;
     }
     Ok(())
 }
@@ -59,6 +55,7 @@ fn run(rt: &HostRuntime) -> anyhow::Result<()> {
 // Prints where so many steps lead from blocks of zeros and ones.
 fn show(rt: &HostRuntime, way: Way, count: u32) -> anyhow::Result<()> {
     let mut belt = BeltBlock::new(&KEY).unwrap();
+    // A match and no table of steps: one takes a block and one a pair, and no function may hand out a boxed closure.
     let pair = ([0; 16], [1; 16]);
     let (p, q) = match way {
         Way::One => (repeat(count, [0; 16], |p| belt.forward(p)), [0; 16]),
