@@ -71,7 +71,8 @@ fn nine_steps(i: u32, k: [u32; 7], s: Quad) -> Quad
     Quad { a, b, c, d }
 }
 
-// The word that four octets write, from a place on.
+// The word that four octets write, from a place on. Blocks and keys each take their words by `array::from_fn`: for a number of words that is
+// a parameter the proof did not close.
 fn word(octets: &[u8], at: usize) -> u32
     requires { at + 4 ≤ length octets.now }
     ensures { result ≡ word_at octets.now at }

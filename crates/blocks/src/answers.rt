@@ -64,20 +64,12 @@ pub enum Refusal {
 }
 
 impl Refusal {
-    // The number in answers.
+    // The number in answers. A method and no `From`, whose clause could not say that no two share a number.
     pub fn number(self) -> u8
         ensures number { result ≡ refusal_number self }
         ensures apart { NumbersApart }
     {
         self as u8
-    }
-}
-
-impl From<Refusal> for u8 {
-    ghost from_gives = { λ refusal n. n ≡ refusal_number refusal };
-
-    fn from(why: Refusal) -> u8 {
-        why.number()
     }
 }
 

@@ -16,8 +16,9 @@ pub use bench::BenchBlock;
 pub use pair::PairBlock;
 
 // A block: a step on sixteen octets that can be undone. No step refuses, and none alters what the block means.
-// The two ways are functions of their own: a parameter for the way would stand in every call and say no more than the name does.
-// That no step alters the meaning is said of each step, since a block is lent as `&mut` and may keep something of its own.
+// The two ways are functions of their own, since most callers take one; the code that serves both, ECB and BelT's rounds, has a type
+// parameter for the way. That no step alters the meaning is said of each step, and of each call that is lent a block: it is lent as `&mut`
+// and may keep something of its own.
 pub trait Block {
     // The forward image of each sixteen octets, and the one block that has a given image.
     ghost meaning: { Self → Step };

@@ -38,7 +38,7 @@ pub trait Number {
         ensures undone { number (listed result) ≡ value self };
 }
 
-// An impl for each width: the language's conversions are each type's own.
+// An impl for each width: the language's conversions are each type's own, and no macro may hold a ghost item.
 impl Number for u16 {
     type Octets = [u8; 2];
 

@@ -26,7 +26,8 @@ fn front<T: Copy>(cells: &mut [Cell<T>]) -> &mut [Cell<T>]
 }
 
 // No public call requires anything, and a refusal leaves the book as it was. That the capacity stays is said of each call that is lent a
-// book: no type says what stands behind a `&mut` afterwards.
+// book: no type says what stands behind a `&mut` afterwards. That each cell is on one chain is so by the type, and said of each call that
+// makes or changes a book, as its promise.
 #[tactic(auto, using(crate::proofs::Bound::kept))]
 impl<'a, T: Copy> Book<'a, T> {
     ghost use Rattle.books.specs.Books.{elements, capacity, EachOnOneChain, SameCells};
@@ -121,7 +122,7 @@ impl<'a, T: Copy> Book<'a, T> {
         if k == 0 || k > self.len() {
             return None;
         }
-        // A loop, since the closure of a fold would have to show at each turn that its number is a cell's.
+        // A loop: tried as a fold, whose closure has to show at each turn that its number is a cell's; that proof did not close.
         let mut n = self.chain.first;
         for _step in 1..k {
             n = cell_at(self.cells, n).next;

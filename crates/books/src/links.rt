@@ -3,7 +3,8 @@ ghost use Rattle.std.specs.Prelude.{◌≡◌, ◌<◌, ◌≤◌, [], ◌∷◌
 ghost use Rattle.books.specs.Chains.{nexts, values, items, Sound, most_cells};
 ghost use Rattle.books.specs.Walks.{after, put, value_of};
 
-// An element, and the number of the cell after this one. Cells are numbered from 1; 0 ends a chain.
+// An element, and the number of the cell after this one. Cells are numbered from 1; 0 ends a chain, in the two octets of the number, where
+// an `Option` would take four: the device's memory is fixed.
 #[derive(Clone, Copy)]
 pub struct Cell<T> {
     pub(crate) value: T,
@@ -31,7 +32,7 @@ pub struct Chain {
 // The most cells that two chains are laid over.
 pub const MOST_CELLS: usize = 4096;
 
-// Cell n.
+// Cell n. Cells and number stand side by side here and below: a number with its bound in its type would have to hold the cells too.
 #[tactic(auto, using(crate::proofs::Rows::rows))]
 pub(crate) fn cell_at<T: Copy>(cells: &[Cell<T>], n: u16) -> Cell<T>
     requires { (0 < n) × (n ≤ length cells.now) }
@@ -76,6 +77,7 @@ pub(crate) fn form<T: Copy>(cells: &mut [Cell<T>]) -> Chain
     ensures empty { items cells.new result ≡ [] }
 {
     let mut free = 0;
+    // By number, since what a link holds is the number of a cell.
     for n in (1..=cells.len() as u16).rev() {
         link_at(cells, n, free);
         free = n;

@@ -25,7 +25,7 @@ impl fmt::Display for Hex<'_> {
 }
 
 // The octets that a text of digits writes, into the front of `out`; how many, or none where the text is not such or `out` is short.
-// A length beside a buffer, for callers with no heap.
+// A length beside a buffer, for callers with no heap, whose texts have no fixed size.
 pub fn parse(text: &[u8], out: &mut [u8]) -> Option<usize>
     ensures answer { result ≡ parse_answer text.now (length out.old) }
     ensures octets { Parsed result text.now out.old out.new }
@@ -86,6 +86,7 @@ fn fill(text: &[u8], out: &mut [u8])
     ensures { Writes text.now out.new }
 {
     let (pairs, _) = text.as_chunks::<2>();
+    // Written by place: after a write through `iter_mut().zip` nothing is known of `out`.
     for (i, pair) in pairs.iter().enumerate() {
         out[i] = octet(*pair);
     }

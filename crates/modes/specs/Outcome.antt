@@ -1,5 +1,5 @@
 -- What a mode's call answers.
-use Rattle.std.specs.Prelude.{ℕ, cond, Ok, Err, Result, nat_le}
+use Rattle.std.specs.Prelude.{◌≡◌, ℕ, ◌≤◌, ◌⊎◌, cond, List, [], length, Ok, Err, Result, nat_le}
 use Rattle.blocks.specs.Octets.{longest}
 use Rattle.blocks.specs.declared.answers.Refusal.{Refusal}
 use Rattle.blocks.specs.declared.answers.Refusal.TheVariants.{LongMessage, ShortMessage, ShortOutput}
@@ -13,3 +13,7 @@ mode_answer least size room =
     (cond (nat_le size room) (Ok size) (Err ShortOutput))
     (Err ShortMessage))
     (Err LongMessage)
+
+-- What may follow the whole pieces of a text: nothing, or again a text that the mode takes.
+abbrev pub MayFollow : ℕ → List ℕ → Type 0
+MayFollow least x = (x ≡ []) ⊎ (least ≤ length x)

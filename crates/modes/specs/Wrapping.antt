@@ -53,3 +53,7 @@ wrapped f header x = wrap_steps f (rounds (length (x ++ header))) (x ++ header)
 -- All steps back: a key text, and sixteen octets that are the header if y was wrapped under it.
 abbrev pub unwrapped : (List ℕ → List ℕ) → List ℕ → List ℕ
 unwrapped f y = unwrap_steps f (rounds (length y)) y
+
+-- The key text that all steps back find: all but the last sixteen octets.
+abbrev pub key_found : (List ℕ → List ℕ) → List ℕ → List ℕ
+key_found f y = take (length y - 16) (unwrapped f y)

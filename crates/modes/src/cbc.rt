@@ -85,6 +85,7 @@ impl Mode for Decryption {
     }
 }
 
+// Both calls are instances of `apply`, named for their theorems.
 // Encrypts a message of 16 to 65,536 octets.
 pub fn cbc_encrypt<B: Block>(
     block: &mut B,

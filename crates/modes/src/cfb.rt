@@ -115,6 +115,7 @@ fn fed_from<F>(start: [u8; 16]) -> Cfb<F>
     }
 }
 
+// Both calls are instances of `apply`, named for their theorems.
 // Encrypts a message of at most 65,536 octets.
 pub fn cfb_encrypt<B: Block>(
     block: &mut B,

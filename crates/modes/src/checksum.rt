@@ -61,6 +61,7 @@ fn pad(q: &[u8]) -> [u8; 16]
     p
 }
 
+// The two marks differ in two constants; one function of both would leave their names to the reader.
 fn whole_mark(r: [u8; 16]) -> [u8; 16]
     ensures { result ≡ whole_mark r }
 {

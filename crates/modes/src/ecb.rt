@@ -95,6 +95,7 @@ impl<W: Way> Mode for Ecb<W> {
     }
 }
 
+// Both calls are instances of `apply`, named for their theorems.
 // Encrypts a message of 16 to 65,536 octets.
 pub fn ecb_encrypt<B: Block>(
     block: &mut B,

@@ -2,7 +2,7 @@
 ghost use Rattle.std.specs.Prelude.{◌≡◌, ℕ, ◌+◌, ◌-◌, ◌%◌, ◌<◌, ◌≤◌, ◌⊎◌, List, [], ◌++◌, length, take, drop};
 ghost use Rattle.blocks.specs.Steps.{Step};
 ghost use Rattle.blocks.specs.Written.{written};
-ghost use Rattle.modes.specs.Outcome.{mode_answer};
+ghost use Rattle.modes.specs.Outcome.{mode_answer, MayFollow};
 
 use crate::parts::{store_two, whole_pieces};
 use blocks::octets::LONGEST;
@@ -20,7 +20,7 @@ pub(crate) trait Mode {
 
     // Takes the next piece of a text, a whole one: what follows is nothing, or again a text that the mode takes.
     fn turn<B: Block>(&mut self, block: &mut B, p: [u8; 16]) -> [u8; 16]
-        ensures answer { (x : List ℕ) → ((x ≡ []) ⊎ (LEAST ≤ length x)) → makes self.old (B.meaning block.old) (p ++ x) ≡ result ++ makes self.new (B.meaning block.old) x }
+        ensures answer { (x : List ℕ) → MayFollow LEAST x → makes self.old (B.meaning block.old) (p ++ x) ≡ result ++ makes self.new (B.meaning block.old) x }
         ensures same { B.meaning block.new ≡ B.meaning block.old };
 
     // Takes the next two pieces; a mode whose pieces do not wait for each other writes its own.
@@ -30,7 +30,7 @@ pub(crate) trait Mode {
         p: [u8; 16],
         q: [u8; 16],
     ) -> ([u8; 16], [u8; 16])
-        ensures answer { (x : List ℕ) → ((x ≡ []) ⊎ (LEAST ≤ length x)) → makes self.old (B.meaning block.old) (p ++ (q ++ x)) ≡ result.0 ++ (result.1 ++ makes self.new (B.meaning block.old) x) }
+        ensures answer { (x : List ℕ) → MayFollow LEAST x → makes self.old (B.meaning block.old) (p ++ (q ++ x)) ≡ result.0 ++ (result.1 ++ makes self.new (B.meaning block.old) x) }
         ensures same { B.meaning block.new ≡ B.meaning block.old }
     {
         let a = self.turn(block, p);
@@ -113,7 +113,7 @@ fn run<T: Mode, B: Block>(mode: &mut T, block: &mut B, text: &[u8], out: &mut [u
 // Puts whole pieces through a mode, two at a time: what follows them is nothing, or again a text that the mode takes.
 fn run_whole<T: Mode, B: Block>(mode: &mut T, block: &mut B, text: &[u8], out: &mut [u8])
     requires { (length text.now % 16 ≡ 0) × (length out.old ≡ length text.now) }
-    ensures text { (x : List ℕ) → ((x ≡ []) ⊎ (T.Mode.LEAST ≤ length x)) → T.Mode.makes mode.old (B.meaning block.old) (text.now ++ x) ≡ out.new ++ T.Mode.makes mode.new (B.meaning block.old) x }
+    ensures text { (x : List ℕ) → MayFollow T.Mode.LEAST x → T.Mode.makes mode.old (B.meaning block.old) (text.now ++ x) ≡ out.new ++ T.Mode.makes mode.new (B.meaning block.old) x }
     ensures same { B.meaning block.new ≡ B.meaning block.old }
 {
     let (pairs, odd) = whole_pieces(text).as_chunks::<2>();

@@ -11,7 +11,8 @@ pub(crate) fn whole_pieces(text: &[u8]) -> &[[u8; 16]]
     text.as_chunks().0
 }
 
-// The short piece q, filled up with the last octets of `base`.
+// The short piece q, filled up with the last octets of `base`. (The hash has one of 32 octets: one for both would be public, and so could
+// require nothing.)
 pub(crate) fn filled(q: &[u8], base: [u8; 16]) -> [u8; 16]
     requires { length q.now ≤ 16 }
     ensures { result ≡ q.now ++ drop (length q.now) base }

@@ -2,7 +2,7 @@
 ghost use Rattle.std.specs.Prelude.{◌≡◌, ℕ, ◌+◌, ◌-◌, ◌≤◌, ◌++◌, length, take, replicate, Decides};
 ghost use Rattle.blocks.specs.Octets.{xor_each};
 ghost use Rattle.blocks.specs.Written.{written};
-ghost use Rattle.modes.specs.Wrapping.{mixed_all, wrap_step, unwrap_step, wrap_steps, unwrap_steps, rounds, wrapped, unwrapped};
+ghost use Rattle.modes.specs.Wrapping.{mixed_all, wrap_step, unwrap_step, wrap_steps, unwrap_steps, rounds, wrapped, key_found};
 ghost use Rattle.modes.specs.WrapAnswers.{wrap_answer, unwrap_answer, Within};
 ghost use Rattle.modes.specs.WrapExact.{UnwrapsExactly, WrapExact};
 
@@ -28,14 +28,15 @@ fn mix(text: &[u8]) -> [u8; 16]
     s
 }
 
-// Whether sixteen octets are the same; every octet is looked at.
+// Whether sixteen octets are the same; every octet is looked at, where `==` may stop at the first that differs.
 fn agree(a: [u8; 16], b: [u8; 16]) -> bool
     ensures { Decides result (a ≡ b) }
 {
     xor(a, b).iter().fold(0, |d, x| d | x) == 0
 }
 
-// Step i of the wrapping, in place.
+// Step i of the wrapping, in place. It asks for two blocks at the least, as the three below do: a type for that would be made in `wrap` and
+// in `unwrap_within` and be used there once.
 fn wrap_step<B: Block>(block: &mut B, text: &mut [u8], i: usize)
     requires { 32 ≤ length text.old }
     ensures text { text.new ≡ wrap_step (B.meaning block.old).image i text.old }
@@ -118,7 +119,8 @@ pub fn wrap<B: Block>(
     Ok(size)
 }
 
-// Unwraps a text of 32 to 272 octets to the front of the output, if it was wrapped under the header. The scratch ends as zeros.
+// Unwraps a text of 32 to 272 octets to the front of the output, if it was wrapped under the header. The scratch ends as zeros: said here
+// too, since the caller sees no guard.
 pub fn unwrap<B: Block>(
     block: &mut B,
     header: [u8; 16],
@@ -127,7 +129,7 @@ pub fn unwrap<B: Block>(
     out: &mut [u8],
 ) -> Result<usize, Refusal>
     ensures answer { result ≡ unwrap_answer (B.meaning block.old).image header text.now (length scratch.old) (length out.old) }
-    ensures text { out.new ≡ written result (take (length text.now - 16) (unwrapped (B.meaning block.old).image text.now)) out.old }
+    ensures text { out.new ≡ written result (key_found (B.meaning block.old).image text.now) out.old }
     ensures exact { UnwrapsExactly (B.meaning block.old).image header text.now (length scratch.old) out.old out.new result }
     ensures wiped { scratch.new ≡ replicate (length scratch.old) 0 }
     ensures same { B.meaning block.new ≡ B.meaning block.old }
@@ -146,7 +148,7 @@ fn unwrap_in<B: Block>(
     out: &mut [u8],
 ) -> Result<usize, Refusal>
     ensures answer { result ≡ unwrap_answer (B.meaning block.old).image header text.now (length scratch.old) (length out.old) }
-    ensures text { out.new ≡ written result (take (length text.now - 16) (unwrapped (B.meaning block.old).image text.now)) out.old }
+    ensures text { out.new ≡ written result (key_found (B.meaning block.old).image text.now) out.old }
     ensures same { B.meaning block.new ≡ B.meaning block.old }
 {
     let n = unwrap_within(block, header, text, out.len(), scratch)?;
@@ -155,7 +157,8 @@ fn unwrap_in<B: Block>(
 }
 
 // Unwraps within the scratch, for a caller that goes on with the key text there and zeroes the scratch itself; `room` is what its own
-// output has for a key text. Accepted, the key text stands at the front of the scratch.
+// output has for a key text. Accepted, the key text stands at the front of the scratch. It answers a length and no slice of the scratch, of
+// which a contract would have to say what its lender has afterwards.
 pub fn unwrap_within<B: Block>(
     block: &mut B,
     header: [u8; 16],
@@ -164,7 +167,7 @@ pub fn unwrap_within<B: Block>(
     scratch: &mut [u8],
 ) -> Result<usize, Refusal>
     ensures answer { result ≡ unwrap_answer (B.meaning block.old).image header text.now (length scratch.old) room }
-    ensures key { Within result (take (length text.now - 16) (unwrapped (B.meaning block.old).image text.now)) scratch.new room }
+    ensures key { Within result (key_found (B.meaning block.old).image text.now) scratch.new room }
     ensures same { B.meaning block.new ≡ B.meaning block.old }
 {
     let size = text.len();

@@ -12,7 +12,7 @@ ghost use Rattle.belt.specs.Hash.{hash_of};
 ghost use Rattle.modes.specs.Outcome.{mode_answer};
 ghost use Rattle.modes.specs.Modes.{ecb, cbc_encrypt, cbc_decrypt, cfb_encrypt, cfb_decrypt, ctr};
 ghost use Rattle.modes.specs.Checksum.{checksum};
-ghost use Rattle.modes.specs.Wrapping.{wrapped, unwrapped};
+ghost use Rattle.modes.specs.Wrapping.{wrapped, key_found};
 ghost use Rattle.modes.specs.WrapAnswers.{wrap_answer, unwrap_answer};
 ghost use Rattle.rounds.specs.Tags.{issued, issue_answer};
 ghost use Rattle.radio.specs.Keyed.{keyed, under, sixteen, digest_answer};
@@ -32,7 +32,7 @@ use modes::scratch::Wipe;
 use modes::wrap::{unwrap, wrap};
 use rounds::tag::issue;
 
-// A start or a header from its two numbers.
+// A start or a header from its two numbers. (BelT's `joined`, which lays octets after octets too, requires a length and is private.)
 #[tactic(auto, unfolding(crate::specs::Keyed::sixteen))]
 fn octets(first: u64, second: u64) -> [u8; 16]
     ensures { result ≡ sixteen first second }
@@ -240,7 +240,7 @@ pub extern "C" fn muchqawi_unwrap(
     scratch: &mut [u8],
     out: &mut [u8],
 ) -> u8
-    ensures told { Told (keyed key.now (unwrap_answer (under key.now).image (sixteen first second) text.now (length scratch.old) (length out.old))) (take (length text.now - 16) (unwrapped (under key.now).image text.now)) out.old result out.new }
+    ensures told { Told (keyed key.now (unwrap_answer (under key.now).image (sixteen first second) text.now (length scratch.old) (length out.old))) (key_found (under key.now).image text.now) out.old result out.new }
     ensures wiped { scratch.new ≡ replicate (length scratch.old) 0 }
 {
     let guard = Wipe { scratch };

@@ -44,6 +44,9 @@ pub record LawfulSealer (s : Sealer) : Type 0 where
 abbrev pub SameBlock : {B : Type 0} → (B → Step) → MutBor B → MutBor B → Type 0
 SameBlock meaning before after = (meaning after.now ≡ meaning before.now) × (after.ghost_name ≡ before.ghost_name)
 
+abbrev pub SameSealer : {S C : Type 0} → (S → Step) → (C → Step) → lent.Sealer S C → lent.Sealer S C → Type 0
+SameSealer seal check before after = SameBlock seal before.seal after.seal × SameBlock check before.check after.check
+
 -- The start of a report: the seal block's image of wand number, report number and eight zeros.
 abbrev pub seed_of : ℕ → ℕ → List ℕ
 seed_of wand num = field 4 wand ++ (field 4 num ++ replicate 8 0)

@@ -16,7 +16,7 @@ pub enum Layer {
 }
 
 impl Layer {
-    // The number in answers.
+    // The number in answers; a method, as a refusal's is.
     pub fn number(self) -> u8
         ensures { result ≡ layer_number self }
     {
@@ -32,14 +32,6 @@ impl Layer {
             layer: self,
             place,
         }
-    }
-}
-
-impl From<Layer> for u8 {
-    ghost from_gives = { λ layer n. n ≡ layer_number layer };
-
-    fn from(layer: Layer) -> u8 {
-        layer.number()
     }
 }
 

@@ -4,7 +4,7 @@ ghost use Rattle.blocks.specs.declared.answers.Refusal.TheVariants.{ReportLength
 ghost use Rattle.books.specs.Books.{elements, capacity};
 ghost use Rattle.books.specs.Lists.{Adds};
 ghost use Rattle.reports.specs.Layout.{most_visits, body_size, visit_at};
-ghost use Rattle.reports.specs.Sealing.{SameBlock, start_size, sum_size, sealer_of};
+ghost use Rattle.reports.specs.Sealing.{SameSealer, start_size, sum_size, sealer_of};
 ghost use Rattle.reports.specs.Faults.{in_text};
 ghost use Rattle.reports.specs.Opening.{count_of, sized, front_part, body_in, decode_answer, open_answer, opened_of, held_after, free_cells_in};
 ghost use Rattle.reports.specs.Exact.{OpensExactly};
@@ -34,6 +34,7 @@ struct Text<'a> {
 }
 
 impl<'a> Text<'a> {
+    // A fault and no error of its own kind, so no `TryFrom`.
     fn of(octets: &'a [u8]) -> Result<Text<'a>, Fault>
         ensures { MatchResult result (λ t. (t.octets.now ≡ octets.now) × (sized (length octets.now) ≡ true)) (λ f. (f ≡ in_text ReportLength 0) × (sized (length octets.now) ≡ false)) }
     {
@@ -85,8 +86,7 @@ impl<S: Block, C: Block> Sealer<'_, S, C> {
         ensures exact { OpensExactly (sealer_of S.meaning C.meaning self.old) (free_cells_in book.old) text.now (elements book.old) (elements book.new) result }
         ensures capacity { capacity book.new ≡ capacity book.old }
         ensures untouched { is_ok result ≡ false → book.new ≡ book.old }
-        ensures seal_same { SameBlock S.meaning self.old.seal self.new.seal }
-        ensures check_same { SameBlock C.meaning self.old.check self.new.check }
+        ensures same { SameSealer S.meaning C.meaning self.old self.new }
     {
         let text = Text::of(text)?;
         // On the stack: a call cannot fail for memory.
@@ -110,8 +110,7 @@ impl<S: Block, C: Block> Sealer<'_, S, C> {
         requires { length body.old ≡ body_size (count_of (length text.now.octets.now)) }
         ensures answer { result ≡ decode_answer (sealer_of S.meaning C.meaning self.old) (count_of (length text.now.octets.now)) text.now.octets.now }
         ensures body { is_ok result ≡ true → body.new ≡ body_in (sealer_of S.meaning C.meaning self.old) text.now.octets.now }
-        ensures seal_same { SameBlock S.meaning self.old.seal self.new.seal }
-        ensures check_same { SameBlock C.meaning self.old.check self.new.check }
+        ensures same { SameSealer S.meaning C.meaning self.old self.new }
     {
         let sum = sum_of(self.check, text.front());
         if *text.sum() != sum {
@@ -129,7 +128,7 @@ impl<S: Block, C: Block> Sealer<'_, S, C> {
     }
 }
 
-// Files a fault at the end of a book of faults.
+// Files a fault at the end of a book of faults. (That a book's capacity stays is said of each call here: it is lent as `&mut`.)
 pub fn file(book: &mut Book<Fault>, fault: Fault) -> Result<(), Refusal>
     ensures filed { Adds (capacity book.old) TooFewCells (elements book.old) fault (elements book.new) result }
     ensures capacity { capacity book.new ≡ capacity book.old }

@@ -52,7 +52,7 @@ impl<'a> Report<'a> {
     }
 }
 
-// Whether what stands before the visits is lawful.
+// Whether what stands before the visits is lawful. This and the next say yes or no, and `lawful` says with which refusal.
 fn head_lawful(header: Header, visits: &[Visit]) -> bool
     ensures { result ≡ head_ok (report_of header visits.now) }
 {
@@ -62,7 +62,8 @@ fn head_lawful(header: Header, visits: &[Visit]) -> bool
         && visits.len() <= MOST_VISITS
 }
 
-// Whether each visit is lawful after the one before it.
+// Whether each visit is lawful after the one before it. The office's walk reads its visits from octets and says where it stopped; one
+// function for both would take two closures.
 fn visits_lawful(visits: &[Visit]) -> bool
     ensures answer { result ≡ visits_ok 0 visits.now }
     ensures lawful { result ≡ true → LawfulVisits 0 visits.now }

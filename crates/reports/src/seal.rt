@@ -2,7 +2,7 @@
 ghost use Rattle.std.specs.Prelude.{◌≡◌, length};
 ghost use Rattle.blocks.specs.Written.{written};
 ghost use Rattle.reports.specs.Layout.{report_of};
-ghost use Rattle.reports.specs.Sealing.{SameBlock, sealer_of, sealed, text_size, seal_answer};
+ghost use Rattle.reports.specs.Sealing.{SameSealer, sealer_of, sealed, text_size, seal_answer};
 ghost use Rattle.reports.specs.Exact.{SealsExactly};
 
 use crate::report::Report;
@@ -22,8 +22,7 @@ impl<S: Block, C: Block> Sealer<'_, S, C> {
         ensures answer { result ≡ seal_answer (report_of header visits.now) (length out.old) }
         ensures text { out.new ≡ written result (sealed (sealer_of S.meaning C.meaning self.old) (report_of header visits.now)) out.old }
         ensures exact { SealsExactly (report_of header visits.now) (length out.old) result }
-        ensures seal_same { SameBlock S.meaning self.old.seal self.new.seal }
-        ensures check_same { SameBlock C.meaning self.old.check self.new.check }
+        ensures same { SameSealer S.meaning C.meaning self.old self.new }
     {
         let report = Report::lawful(header, visits)?;
         let n = START + report.body_size() + SUM;
@@ -39,8 +38,7 @@ impl<S: Block, C: Block> Sealer<'_, S, C> {
     fn write_sealed(&mut self, report: &Report, out: &mut [u8])
         requires { length out.old ≡ text_size (length report.now.visits.now) }
         ensures text { out.new ≡ sealed (sealer_of S.meaning C.meaning self.old) (report_of report.now.header report.now.visits.now) }
-        ensures seal_same { SameBlock S.meaning self.old.seal self.new.seal }
-        ensures check_same { SameBlock C.meaning self.old.check self.new.check }
+        ensures same { SameSealer S.meaning C.meaning self.old self.new }
     {
         // On the stack: the device has no heap.
         let mut room = [0; MOST_BODY];

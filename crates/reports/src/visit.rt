@@ -42,7 +42,7 @@ pub(crate) const VISIT: usize = 14;
 pub(crate) const LETTERS: [u8; 4] = *b"BRPT";
 
 impl Visit {
-    // Its octets.
+    // Its octets. Named as the language names its own (`to_le_bytes`), where a `From` would not say which octets.
     pub(crate) fn to_octets(self) -> [u8; VISIT]
         ensures { result ≡ visit_of self }
     {

@@ -2,7 +2,7 @@
 ghost use Rattle.std.specs.Prelude.{◌≡◌, ℕ, ◌+◌, ◌-◌, ◌*◌, true, length, take, replicate};
 ghost use Rattle.blocks.specs.Written.{written};
 ghost use Rattle.belt.specs.Keys.{key_length};
-ghost use Rattle.modes.specs.Wrapping.{unwrapped};
+ghost use Rattle.modes.specs.Wrapping.{key_found};
 ghost use Rattle.rounds.specs.Kits.{kit_header, kit_key, kit_keys, kit_room, kit_answer};
 ghost use Rattle.rounds.specs.KitExact.{KitExact};
 
@@ -19,7 +19,7 @@ pub const KIT: usize = 96;
 const KEY_TEXT: usize = 256;
 
 // Unwraps a site key and writes the site's tag, seal and check keys to the front of the output, each as long as the site key. The scratch
-// ends as zeros.
+// ends as zeros, which the caller could not see of the guard.
 pub fn kit<B: Block>(
     block: &mut B,
     header: [u8; 16],
@@ -29,7 +29,7 @@ pub fn kit<B: Block>(
     out: &mut [u8],
 ) -> Result<usize, Refusal>
     ensures answer { result ≡ kit_answer (B.meaning block.old).image header text.now (length scratch.old) (length out.old) }
-    ensures text { out.new ≡ written result (kit_keys (take (length text.now - 16) (unwrapped (B.meaning block.old).image text.now)) site) out.old }
+    ensures text { out.new ≡ written result (kit_keys (key_found (B.meaning block.old).image text.now) site) out.old }
     ensures exact { KitExact (B.meaning block.old).image header text.now site (length scratch.old) out.old out.new result }
     ensures wiped { scratch.new ≡ replicate (length scratch.old) 0 }
     ensures same { B.meaning block.new ≡ B.meaning block.old }
@@ -38,7 +38,8 @@ pub fn kit<B: Block>(
     kit_in(block, header, text, site, guard.scratch, out)
 }
 
-// The work of the kit, which leaves octets of the site key in the scratch.
+// The work of the kit, which leaves octets of the site key in the scratch. Its parameters are the kit's: a struct of them would be made
+// and taken apart once.
 fn kit_in<B: Block>(
     block: &mut B,
     header: [u8; 16],
@@ -48,7 +49,7 @@ fn kit_in<B: Block>(
     out: &mut [u8],
 ) -> Result<usize, Refusal>
     ensures answer { result ≡ kit_answer (B.meaning block.old).image header text.now (length scratch.old) (length out.old) }
-    ensures text { out.new ≡ written result (kit_keys (take (length text.now - 16) (unwrapped (B.meaning block.old).image text.now)) site) out.old }
+    ensures text { out.new ≡ written result (kit_keys (key_found (B.meaning block.old).image text.now) site) out.old }
     ensures same { B.meaning block.new ≡ B.meaning block.old }
 {
     let n = unwrap_within(block, header, text, room(out.len()), scratch)?;
@@ -66,7 +67,7 @@ fn room(out: usize) -> usize
     if out < KIT { 0 } else { KEY_TEXT }
 }
 
-// Writes the three keys.
+// Writes the three keys, each by its place: after a write through `chunks_exact_mut` nothing would be known of them.
 fn derive(key: &[u8], site: u16, out: &mut [u8])
     requires { (key_length (length key.now) ≡ true) × (length out.old ≡ 3 * length key.now) }
     ensures { out.new ≡ kit_keys key.now site }

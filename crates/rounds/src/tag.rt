@@ -21,7 +21,7 @@ pub struct Tag {
     pub serial: u32,
 }
 
-// Writes the tag text of a checkpoint of a site.
+// Writes the tag text of a checkpoint of a site. The numbers stand side by side, as the C call has them.
 pub fn issue<B: Block>(
     block: &mut B,
     site: u16,

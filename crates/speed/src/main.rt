@@ -55,7 +55,7 @@ fn main(rt: HostRuntime) -> anyhow::Result<()> {
 // Prints where so many steps lead from blocks of zeros and ones.
 fn show(rt: &HostRuntime, way: Way, count: u32) -> anyhow::Result<()> {
     let mut belt = BeltBlock::new(&KEY).unwrap();
-    // A match and no table of steps: one takes a block and one a pair, and no function may hand out a boxed closure.
+    // A match: a way that holds its step would be a boxed closure, which no function may hand out.
     let pair = ([0; 16], [1; 16]);
     let (p, q) = match way {
         Way::One => (repeat(count, [0; 16], |p| belt.forward(p)), [0; 16]),

@@ -11,6 +11,7 @@ fn second_of_two(cells: &mut [Cell<u32>], a: u32, b: u32) -> Option<u32>
     ensures { 2 ≤ length cells.old → result ≡ Some b }
 {
     let mut book = Book::new(cells);
+    // A short book refuses here, and the clause speaks of no such book.
     let _ = book.add_last(a);
     let _ = book.add_last(b);
     let _ = book.take_first();
@@ -24,7 +25,7 @@ fn free_of_sixteen(a: u32) -> usize
     let cell = Cell::new(0);
     let mut cells = [cell; 16];
     let mut book = Book::new(&mut cells);
-    let _ = book.add_last(a);
+    book.add_last(a).unwrap();
     book.free()
 }
 

@@ -20,7 +20,7 @@ fn sample() -> [u8; 65_537] {
     array::from_fn(|j| (j % 251) as u8)
 }
 
-// ECB called as the modes that have a start.
+// ECB called as the modes that have a start; named, since a closure is proved anew at each of the three places.
 pub fn ecb_encrypt_from(
     block: &mut BeltBlock,
     _start: [u8; 16],

@@ -36,8 +36,7 @@ returns-in_err-text g c =
       exact = w.exact;
       capacity = refl;
       untouched = λ _. refl;
-      seal_same = (refl, refl);
-      check_same = (refl, refl);
+      same = ((refl, refl), (refl, refl));
     }
 
 pub returns-in_err-header : goal.returns-in_err-header
@@ -58,8 +57,7 @@ returns-in_err-header g c =
       exact = w.exact;
       capacity = refl;
       untouched = λ _. refl;
-      seal_same = h.seal_same;
-      check_same = h.check_same;
+      same = h.same;
     }
 
 pub returns-then-visits-free : goal.returns-then-visits-free
@@ -89,8 +87,7 @@ returns-then-visits-free g c =
       exact = w.exact;
       capacity = refl;
       untouched = λ _. refl;
-      seal_same = h.seal_same;
-      check_same = h.check_same;
+      same = h.same;
     }
 
 pub returns : goal.returns
@@ -122,6 +119,5 @@ returns g c =
       exact = w.exact;
       capacity = c.add_visits.ensures.capacity;
       untouched = λ z. absurd (true≢false z);
-      seal_same = h.seal_same;
-      check_same = h.check_same;
+      same = h.same;
     }
