@@ -52,7 +52,8 @@ pub(crate) fn compress(x: [u8; 32], h: [u8; 32]) -> Running
     Running { mix, state }
 }
 
-// A block of 32 octets: a piece of the message, filled with zeros.
+// A block of 32 octets: a piece of the message, filled with zeros. (The modes fill up one of 16; one for both would be public, and so could
+// require nothing.)
 fn filled(piece: &[u8]) -> [u8; 32]
     requires { length piece.now ≤ 32 }
     ensures { result ≡ padded piece.now }

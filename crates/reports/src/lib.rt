@@ -1,4 +1,5 @@
-// Reports: what a wand seals of its visits, and how the office opens it.
+// Reports: what a wand seals of its visits, and how the office opens it. Sealing writes to lent memory and says how much: the device has no
+// heap.
 #![tactic(auto)]
 
 ghost use Rattle.reports.specs.Cases.{EmptySealed, OddLengths};

@@ -12,7 +12,7 @@ use blocks::{Block, Refusal};
 
 impl<S: Block, C: Block> Sealer<'_, S, C> {
     // Writes the sealed text of a lawful list to the front of the output. It refuses what the office would: 43 for what stands before the
-    // visits, 44 for a visit; and then 31 for a short output.
+    // visits, 44 for a visit; and then 31 for a short output. Header and visits come apart, as the wand has them.
     pub fn seal_list(
         &mut self,
         header: Header,

@@ -23,7 +23,7 @@ pub struct Sealer<'a, S, C> {
     pub check: &'a mut C,
 }
 
-// The start of a report.
+// The start of a report. This and what follows step one block each, and so borrow one field of a sealer, not the sealer.
 pub(crate) fn start_of<S: Block>(seal: &mut S, header: Header) -> [u8; START]
     ensures answer { result ≡ start_of (S.meaning seal.old) header.wand header.number }
     ensures same { S.meaning seal.new ≡ S.meaning seal.old }
