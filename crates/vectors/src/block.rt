@@ -48,8 +48,10 @@ fn other_key_lengths_are_refused(rt: HostRuntime) -> Result<(), Fail> {
         let key = vec![in rt.alloc(); 7; n]?;
         assert_eq!(rt; expand(&key), Err(Refusal::KeyLength), "{n} octets");
         assert_eq!(rt; BeltBlock::new(&key).err(), Some(Refusal::KeyLength));
+        assert_eq!(rt; answer_number(&BeltBlock::new(&key)), 34);
     }
     assert_eq!(rt; BeltBlock::new(&[7; 24]).err(), None);
+    assert_eq!(rt; answer_number(&BeltBlock::new(&[7; 24])), 0);
     Ok(())
 }
 

@@ -48,6 +48,7 @@ fn hash_of_the_longest_message(rt: HostRuntime) -> Result<(), Fail> {
 #[test]
 fn hash_of_a_longer_message_is_refused(rt: HostRuntime) {
     assert_eq!(rt; hash(&[0; 65_537]), Err(Refusal::LongMessage));
+    assert_eq!(rt; Refusal::LongMessage.number(), 32);
 }
 
 #[test]
@@ -112,6 +113,7 @@ fn transformation_refuses_lengths(rt: HostRuntime) {
             "{new_length} octets in {room}"
         );
     }
+    assert_eq!(rt; Refusal::KeyLength.number(), 34);
 }
 
 #[test]
@@ -128,4 +130,5 @@ fn transformation_refuses_a_short_output(rt: HostRuntime) {
             "{new_length} octets in {room}"
         );
     }
+    assert_eq!(rt; Refusal::ShortOutput.number(), 31);
 }

@@ -81,5 +81,9 @@ fn kit_refuses(rt: HostRuntime) -> Result<(), Fail> {
             "scratch of {scratch_room}, output of {room}"
         );
     }
+    assert_eq!(rt; Refusal::KeyLength.number(), 34);
+    assert_eq!(rt; Refusal::WrappedLength.number(), 51);
+    assert_eq!(rt; Refusal::ShortOutput.number(), 31);
+    assert_eq!(rt; Refusal::HeaderDiffers.number(), 52);
     Ok(())
 }

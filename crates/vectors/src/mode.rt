@@ -39,11 +39,11 @@ pub fn ecb_decrypt_from(
     ecb_decrypt(block, message, out)
 }
 
-// What a call writes of a text, over the block of a key and from a start, to an output of so many octets.
+// What a call writes of a text, over a block and from a start, to an output of so many octets.
 pub fn run<F>(
     rt: &(impl Abort + AllocGlobal),
     call: &F,
-    key: &[u8; 32],
+    block: &mut BeltBlock,
     start: [u8; 16],
     text: &[u8],
     room: usize,
@@ -52,13 +52,13 @@ where
     F: Fn(&mut BeltBlock, [u8; 16], &[u8], &mut [u8]) -> Result<usize, Refusal>,
     requires { F.IsAlwaysCallable call.now }
 {
-    let mut block = BeltBlock::new(key)?;
-    written(rt, room, |out| call(&mut block, start, text, out))
+    written(rt, room, |out| call(block, start, text, out))
 }
 
 // A message there and back, or the refusal of its length.
 fn there_and_back<There, Back>(
     rt: &(impl Abort + AllocGlobal),
+    block: &mut BeltBlock,
     least: usize,
     message: &[u8],
     there: &There,
@@ -70,7 +70,7 @@ where
     requires there { There.IsAlwaysCallable there.now }
     requires back { Back.IsAlwaysCallable back.now }
 {
-    let text = run(rt, there, &KEY, START, message, 65_540);
+    let text = run(rt, there, block, START, message, 65_540);
     if message.len() > 65_536 {
         assert_eq!(rt; text, Err(Refusal::LongMessage));
     } else if message.len() < least {
@@ -78,7 +78,7 @@ where
     } else {
         let text = text?;
         assert_eq!(rt; text.len(), message.len());
-        let again = run(rt, back, &KEY, START, &text, 65_540)?;
+        let again = run(rt, back, block, START, &text, 65_540)?;
         assert_eq!(rt; again.as_slice(), message);
     }
     Ok(())
@@ -87,6 +87,7 @@ where
 // Every length, encrypted and decrypted, and the other way round.
 fn both_ways<E, D>(
     rt: &(impl Abort + AllocGlobal),
+    block: &mut BeltBlock,
     least: usize,
     encrypt: E,
     decrypt: D,
@@ -110,22 +111,26 @@ where
         &x[..65_536],
         &x,
     ] {
-        there_and_back(rt, least, message, &encrypt, &decrypt)?;
-        there_and_back(rt, least, message, &decrypt, &encrypt)?;
+        there_and_back(rt, block, least, message, &encrypt, &decrypt)?;
+        there_and_back(rt, block, least, message, &decrypt, &encrypt)?;
     }
     Ok(())
 }
 
 #[test]
 fn lengths(rt: HostRuntime) -> Result<(), Fail> {
-    both_ways(&rt, 16, ecb_encrypt_from, ecb_decrypt_from)?;
-    both_ways(&rt, 16, cbc_encrypt, cbc_decrypt)?;
-    both_ways(&rt, 0, cfb_encrypt, cfb_decrypt)?;
-    both_ways(&rt, 0, ctr, ctr)
+    let mut block = BeltBlock::new(&KEY)?;
+    both_ways(&rt, &mut block, 16, ecb_encrypt_from, ecb_decrypt_from)?;
+    both_ways(&rt, &mut block, 16, cbc_encrypt, cbc_decrypt)?;
+    both_ways(&rt, &mut block, 0, cfb_encrypt, cfb_decrypt)?;
+    both_ways(&rt, &mut block, 0, ctr, ctr)?;
+    assert_eq!(rt; Refusal::LongMessage.number(), 32);
+    assert_eq!(rt; Refusal::ShortMessage.number(), 33);
+    Ok(())
 }
 
 // A long message comes before a short one, and that before a short output; no refusal writes.
-fn refuses<F>(rt: &(impl Abort + AllocGlobal), of_fifteen: Refusal, call: F)
+fn refuses<F>(rt: &(impl Abort + AllocGlobal), block: &mut BeltBlock, of_fifteen: Refusal, call: F)
 where
     F: Fn(&mut BeltBlock, [u8; 16], &[u8], &mut [u8]) -> Result<usize, Refusal>,
     requires { F.IsAlwaysCallable call }
@@ -137,33 +142,36 @@ where
         (&x[..15], 14, of_fifteen),
     ] {
         assert_eq!(rt;
-            run(rt, &call, &KEY, START, message, room),
+            run(rt, &call, block, START, message, room),
             Err(refusal),
             "output of {room}"
         );
     }
 }
 
-fn checksum_refuses(rt: &impl Abort) -> Result<(), Fail> {
+fn checksum_refuses(rt: &impl Abort, block: &mut BeltBlock) {
     let message = sample();
     let longest = &message[..65_536];
-    let mut block = BeltBlock::new(&KEY)?;
-    assert_eq!(rt; checksum(&mut block, &message), Err(Refusal::LongMessage));
-    assert!(rt; checksum(&mut block, longest).is_ok());
-    assert!(rt; checksum(&mut block, &[]).is_ok());
-    Ok(())
+    assert_eq!(rt; checksum(block, &message), Err(Refusal::LongMessage));
+    assert!(rt; checksum(block, longest).is_ok());
+    assert!(rt; checksum(block, &[]).is_ok());
 }
 
 #[test]
 fn refusals(rt: HostRuntime) -> Result<(), Fail> {
-    refuses(&rt, Refusal::ShortMessage, ecb_encrypt_from);
-    refuses(&rt, Refusal::ShortMessage, ecb_decrypt_from);
-    refuses(&rt, Refusal::ShortMessage, cbc_encrypt);
-    refuses(&rt, Refusal::ShortMessage, cbc_decrypt);
-    refuses(&rt, Refusal::ShortOutput, cfb_encrypt);
-    refuses(&rt, Refusal::ShortOutput, cfb_decrypt);
-    refuses(&rt, Refusal::ShortOutput, ctr);
-    checksum_refuses(&rt)
+    let mut block = BeltBlock::new(&KEY)?;
+    refuses(&rt, &mut block, Refusal::ShortMessage, ecb_encrypt_from);
+    refuses(&rt, &mut block, Refusal::ShortMessage, ecb_decrypt_from);
+    refuses(&rt, &mut block, Refusal::ShortMessage, cbc_encrypt);
+    refuses(&rt, &mut block, Refusal::ShortMessage, cbc_decrypt);
+    refuses(&rt, &mut block, Refusal::ShortOutput, cfb_encrypt);
+    refuses(&rt, &mut block, Refusal::ShortOutput, cfb_decrypt);
+    refuses(&rt, &mut block, Refusal::ShortOutput, ctr);
+    checksum_refuses(&rt, &mut block);
+    assert_eq!(rt; Refusal::LongMessage.number(), 32);
+    assert_eq!(rt; Refusal::ShortMessage.number(), 33);
+    assert_eq!(rt; Refusal::ShortOutput.number(), 31);
+    Ok(())
 }
 
 // Over the bench block without a mask, which only turns the octets round, the count is seen: its first octet is the least.

@@ -115,5 +115,10 @@ fn changed_tags_are_refused(rt: HostRuntime) -> Result<(), Fail> {
     assert_eq!(rt; checked(1, &[66; 25]), Err(Refusal::TagLength));
     assert_eq!(rt; checked(2, &TAG), Err(Refusal::OtherSite));
     assert_eq!(rt; checked(0, &TAG), Err(Refusal::OtherSite));
+    assert_eq!(rt; Refusal::TagLength.number(), 11);
+    assert_eq!(rt; Refusal::TagLetters.number(), 12);
+    assert_eq!(rt; Refusal::TagChecksum.number(), 13);
+    assert_eq!(rt; Refusal::TagFields.number(), 14);
+    assert_eq!(rt; Refusal::OtherSite.number(), 15);
     Ok(())
 }

@@ -148,8 +148,15 @@ where
     for e in examples {
         let plain = octets(rt, e.plain)?;
         let encrypted = octets(rt, e.encrypted)?;
-        assert_eq!(rt; run(rt, &decrypt, &e.key, e.start, &encrypted, 48)?, plain);
-        assert_eq!(rt; run(rt, &encrypt, &e.key, e.start, &plain, 48)?, encrypted);
+        let mut block = BeltBlock::new(&e.key)?;
+        assert_eq!(rt;
+            run(rt, &decrypt, &mut block, e.start, &encrypted, 48)?,
+            plain
+        );
+        assert_eq!(rt;
+            run(rt, &encrypt, &mut block, e.start, &plain, 48)?,
+            encrypted
+        );
     }
     Ok(())
 }

@@ -16,30 +16,31 @@ fn sample() -> [u8; 256] {
 // A key text, wrapped to an output of so many octets.
 fn wraps(
     rt: &(impl Abort + AllocGlobal),
+    block: &mut BeltBlock,
     key_text: &[u8],
     room: usize,
 ) -> Result<Vec<u8>, Refusal> {
-    let mut block = BeltBlock::new(&KEY)?;
-    written(rt, room, |out| wrap(&mut block, HEADER, key_text, out))
+    written(rt, room, |out| wrap(block, HEADER, key_text, out))
 }
 
 // A text, unwrapped in a scratch and to an output of so many octets.
 fn unwraps(
     rt: &(impl Abort + AllocGlobal),
+    block: &mut BeltBlock,
     text: &[u8],
     scratch_room: usize,
     room: usize,
 ) -> Result<Vec<u8>, Refusal> {
-    let mut block = BeltBlock::new(&KEY)?;
     written(rt, room, |out| {
         in_scratch(rt, scratch_room, |scratch| {
-            unwrap(&mut block, HEADER, text, scratch, out)
+            unwrap(block, HEADER, text, scratch, out)
         })
     })
 }
 
 #[test]
 fn wraps_of_odd_lengths(rt: HostRuntime) -> Result<(), Fail> {
+    let mut block = BeltBlock::new(&KEY)?;
     let text = sample();
     for (key_text, digits) in [
         (
@@ -59,7 +60,10 @@ fn wraps_of_odd_lengths(rt: HostRuntime) -> Result<(), Fail> {
             "2B7FBF3D0C0009FD0448E4AEB243C2499EC226FF53E68DFC2877CFFED07C01571121324880E5E980AC0883CAABF6EB8058",
         ),
     ] {
-        assert_eq!(rt; wraps(&rt, key_text, 288), Ok(octets(&rt, digits)?));
+        assert_eq!(rt;
+            wraps(&rt, &mut block, key_text, 288),
+            Ok(octets(&rt, digits)?)
+        );
     }
     Ok(())
 }
@@ -67,83 +71,139 @@ fn wraps_of_odd_lengths(rt: HostRuntime) -> Result<(), Fail> {
 // A wrapped text is 16 octets longer than its key text.
 #[test]
 fn every_length_comes_back(rt: HostRuntime) -> Result<(), Fail> {
+    let mut block = BeltBlock::new(&KEY)?;
     let text = sample();
     for n in 16..257 {
-        let wrapped = wraps(&rt, &text[..n], 272)?;
+        let wrapped = wraps(&rt, &mut block, &text[..n], 272)?;
         assert_eq!(rt; wrapped.len(), n + 16);
-        assert_eq!(rt; unwraps(&rt, &wrapped, 272, 256)?.as_slice(), &text[..n]);
+        assert_eq!(rt;
+            unwraps(&rt, &mut block, &wrapped, 272, 256)?.as_slice(),
+            &text[..n]
+        );
     }
     Ok(())
 }
 
 #[test]
-fn wrap_refuses_lengths(rt: HostRuntime) {
+fn wrap_refuses_lengths(rt: HostRuntime) -> Result<(), Fail> {
+    let mut block = BeltBlock::new(&KEY)?;
     let text = [1; 257];
     for key_text in [&text[..15], &[], &text] {
         let n = key_text.len();
         assert_eq!(rt;
-            wraps(&rt, key_text, 300),
+            wraps(&rt, &mut block, key_text, 300),
             Err(Refusal::KeyTextLength),
             "{n} octets"
         );
     }
+    assert_eq!(rt; Refusal::KeyTextLength.number(), 35);
+    Ok(())
 }
 
 #[test]
-fn wrap_refuses_a_short_output(rt: HostRuntime) {
+fn wrap_refuses_a_short_output(rt: HostRuntime) -> Result<(), Fail> {
+    let mut block = BeltBlock::new(&KEY)?;
     let text = [1; 256];
-    assert_eq!(rt; wraps(&rt, &text, 271), Err(Refusal::ShortOutput));
-    assert_eq!(rt; wraps(&rt, &text[..16], 31), Err(Refusal::ShortOutput));
-    assert_eq!(rt; wraps(&rt, &text[..15], 0), Err(Refusal::KeyTextLength));
+    assert_eq!(rt;
+        wraps(&rt, &mut block, &text, 271),
+        Err(Refusal::ShortOutput)
+    );
+    assert_eq!(rt;
+        wraps(&rt, &mut block, &text[..16], 31),
+        Err(Refusal::ShortOutput)
+    );
+    assert_eq!(rt;
+        wraps(&rt, &mut block, &text[..15], 0),
+        Err(Refusal::KeyTextLength)
+    );
+    Ok(())
 }
 
 #[test]
-fn unwrap_refuses_lengths(rt: HostRuntime) {
+fn unwrap_refuses_lengths(rt: HostRuntime) -> Result<(), Fail> {
+    let mut block = BeltBlock::new(&KEY)?;
     let text = [1; 273];
     assert_eq!(rt;
-        unwraps(&rt, &text[..31], 272, 272),
+        unwraps(&rt, &mut block, &text[..31], 272, 272),
         Err(Refusal::WrappedLength)
     );
-    assert_eq!(rt; unwraps(&rt, &[], 272, 272), Err(Refusal::WrappedLength));
-    assert_eq!(rt; unwraps(&rt, &text, 300, 272), Err(Refusal::WrappedLength));
-    assert_eq!(rt; unwraps(&rt, &text, 1, 0), Err(Refusal::WrappedLength));
+    assert_eq!(rt;
+        unwraps(&rt, &mut block, &[], 272, 272),
+        Err(Refusal::WrappedLength)
+    );
+    assert_eq!(rt;
+        unwraps(&rt, &mut block, &text, 300, 272),
+        Err(Refusal::WrappedLength)
+    );
+    assert_eq!(rt;
+        unwraps(&rt, &mut block, &text, 1, 0),
+        Err(Refusal::WrappedLength)
+    );
+    assert_eq!(rt; Refusal::WrappedLength.number(), 51);
+    Ok(())
 }
 
 #[test]
 fn unwrap_refuses_a_short_output(rt: HostRuntime) -> Result<(), Fail> {
-    let text = wraps(&rt, &sample(), 272)?;
-    assert_eq!(rt; unwraps(&rt, &text, 272, 255), Err(Refusal::ShortOutput));
-    assert_eq!(rt; unwraps(&rt, &text, 271, 272), Err(Refusal::ShortOutput));
+    let mut block = BeltBlock::new(&KEY)?;
+    let text = wraps(&rt, &mut block, &sample(), 272)?;
+    assert_eq!(rt;
+        unwraps(&rt, &mut block, &text, 272, 255),
+        Err(Refusal::ShortOutput)
+    );
+    assert_eq!(rt;
+        unwraps(&rt, &mut block, &text, 271, 272),
+        Err(Refusal::ShortOutput)
+    );
     let front = text.get(..32).expect(&rt, "a wrapped text");
-    assert_eq!(rt; unwraps(&rt, front, 272, 15), Err(Refusal::ShortOutput));
+    assert_eq!(rt;
+        unwraps(&rt, &mut block, front, 272, 15),
+        Err(Refusal::ShortOutput)
+    );
     Ok(())
 }
 
 // A text with any one of its octets another is refused for its header.
 #[test]
 fn a_flipped_octet_is_refused(rt: HostRuntime) -> Result<(), Fail> {
+    let mut block = BeltBlock::new(&KEY)?;
     let sample = sample();
     for key_text in [&sample[..16], &sample[..21], &sample] {
-        let text = wraps(&rt, key_text, 272)?;
+        let text = wraps(&rt, &mut block, key_text, 272)?;
+        assert_eq!(rt; text.len(), key_text.len() + 16);
         for (k, octet) in text.iter().enumerate() {
             let mut flipped = text.clone()?;
             flipped[k] = octet ^ 1;
             assert_eq!(rt;
-                unwraps(&rt, &flipped, 272, 256),
+                unwraps(&rt, &mut block, &flipped, 272, 256),
                 Err(Refusal::HeaderDiffers)
             );
         }
     }
+    assert_eq!(rt; Refusal::HeaderDiffers.number(), 52);
     Ok(())
 }
 
 #[test]
 fn every_scratch_is_zeroed(rt: HostRuntime) -> Result<(), Fail> {
+    let mut block = BeltBlock::new(&KEY)?;
     let key_text = &sample()[..20];
-    let text = wraps(&rt, key_text, 36)?;
-    assert_eq!(rt; unwraps(&rt, &text, 0, 20), Err(Refusal::ShortOutput));
-    assert_eq!(rt; unwraps(&rt, &text, 271, 20), Err(Refusal::ShortOutput));
-    assert_eq!(rt; unwraps(&rt, &text, 272, 20)?.as_slice(), key_text);
-    assert_eq!(rt; unwraps(&rt, &text, 300, 20)?.as_slice(), key_text);
+    let text = wraps(&rt, &mut block, key_text, 36)?;
+    assert_eq!(rt;
+        unwraps(&rt, &mut block, &text, 0, 20),
+        Err(Refusal::ShortOutput)
+    );
+    assert_eq!(rt;
+        unwraps(&rt, &mut block, &text, 271, 20),
+        Err(Refusal::ShortOutput)
+    );
+    assert_eq!(rt;
+        unwraps(&rt, &mut block, &text, 272, 20)?.as_slice(),
+        key_text
+    );
+    assert_eq!(rt;
+        unwraps(&rt, &mut block, &text, 300, 20)?.as_slice(),
+        key_text
+    );
     Ok(())
 }
