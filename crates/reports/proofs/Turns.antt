@@ -1,7 +1,7 @@
 -- The turns of the loop that writes the visits of a body.
 use Rattle.std.proofs.Common.{◌≡◌, ℕ, ◌+◌, ◌*◌, ◌<◌, ◌≤◌, List, [], ◌++◌, length, get_or, take, drop, sym, ap, ◌∙◌, ap₂, arith}
 use Rattle.std.specs.List.{flat_map}
-use Rattle.std.proofs.lemmas.List.{append_assoc, flat_map_more, length-append, length-take-le, take_all, take_at, take_more}
+use Rattle.std.proofs.lemmas.List.{append_assoc, flat_map_more, length-append, length-take-le, take_at, take_more}
 use Rattle.reports.specs.declared.visit.Visit.{Visit}
 use Rattle.reports.specs.Places.{overlaid}
 use Rattle.reports.specs.Layout.{visit_size, visit_of}
@@ -20,7 +20,3 @@ write-visits-more vs i d x old new h l p e q =
     ap (take (visit_size * (i + 1))) q
     ∙ take-overlaid (visit_size * i) (visit_size * (i + 1)) x old (omega (arith, ap length e)) (omega arith)
     ∙ ap₂ ◌++◌ p e ∙ flat_map_more visit_of [] (take i vs) (get_or vs i d) ∙ ap (flat_map visit_of) (sym (take_more vs i d h))
-
-pub write-visits-all : (vs : List Visit) (i : ℕ) (rest : List ℕ) → length vs ≤ i → length rest ≡ visit_size * length vs
-    → take (visit_size * i) rest ≡ flat_map visit_of (take i vs) → rest ≡ flat_map visit_of vs
-write-visits-all vs i rest h l p = sym (take_all (visit_size * i) rest (omega arith)) ∙ p ∙ ap (flat_map visit_of) (take_all i vs h)
