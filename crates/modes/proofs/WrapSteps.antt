@@ -1,5 +1,5 @@
 -- All the steps undo each other, so unwrapping is exact.
-use Rattle.std.proofs.Common.{◌≡◌, ℕ, zero, suc, ◌-◌, ◌<◌, ◌≤◌, List, ◌++◌, length, sym, refl, ap, ◌∙◌, ap₂, arith}
+use Rattle.std.proofs.Common.{◌≡◌, ℕ, zero, suc, ◌≤◌, List, ◌++◌, length, sym, refl, ap, ◌∙◌, ap₂, arith}
 use Rattle.std.proofs.lemmas.List.{length-append}
 use Rattle.blocks.specs.Octets.{Octets, Sixteen}
 use Rattle.blocks.proofs.Numbers.{octets-append}
@@ -63,14 +63,3 @@ wrap-exact f lands header x y s ox h o h' = record {
   forth = λ e. sym (wrapped-unwrapped f lands y x header o h' e);
   back = λ e. ap (unwrapped f) e ∙ unwrapped-wrapped f lands header x s ox h;
 }
-
--- the last step of the wrapping, and the first of the unwrapping
-pub wrap_steps-more : (f : List ℕ → List ℕ) (i : ℕ) (r : List ℕ) → 0 < i → wrap_steps f i r ≡ wrap_step f i (wrap_steps f (i - 1) r)
-wrap_steps-more f i r h =
-    let e : i ≡ suc (i - 1) = omega arith in
-    ap (λ n. wrap_steps f n r) e ∙ ap (λ n. wrap_step f n (wrap_steps f (i - 1) r)) (sym e)
-
-pub unwrap_steps-more : (f : List ℕ → List ℕ) (i : ℕ) (r : List ℕ) → 0 < i → unwrap_steps f i r ≡ unwrap_steps f (i - 1) (unwrap_step f i r)
-unwrap_steps-more f i r h =
-    let e : i ≡ suc (i - 1) = omega arith in
-    ap (λ n. unwrap_steps f n r) e ∙ ap (λ n. unwrap_steps f (i - 1) (unwrap_step f n r)) (sym e)
