@@ -1,11 +1,11 @@
 // The keys of a site, and the tags at its doors.
 use crate::stop::Stop;
 use belt::BeltBlock;
+use blocks::Refusal;
 use hexadecimal::Hex;
 use modes::wrap::{SCRATCH, wrap};
 use rounds::kit::{KIT, kit};
 use rounds::tag::{check, issue};
-use std::alloc::Global;
 use std::io;
 
 // The site, and the header under which its key was wrapped.
@@ -14,7 +14,8 @@ const SITE: u16 = 1;
 const HEADER: [u8; 16] = *b"site one, key 01";
 
 pub fn show(rt: &HostRuntime, belt: &mut BeltBlock, site_key: &[u8]) -> Result<(), Stop> {
-    let keys = site_keys(rt.alloc(), belt, site_key)?;
+    let mut room = [0; KIT];
+    let keys = site_keys(belt, site_key, &mut room)?;
     let n = keys.len() / 3;
     let (tag_key, others) = keys.split_at(n);
     let (seal_key, check_key) = others.split_at(n);
@@ -26,20 +27,16 @@ pub fn show(rt: &HostRuntime, belt: &mut BeltBlock, site_key: &[u8]) -> Result<(
 }
 
 // Wraps the site key as the key room does, and makes the kit of it as a wand's maker does: the tag, seal and check keys.
-fn site_keys(alloc: Global, belt: &mut BeltBlock, site_key: &[u8]) -> Result<Vec<u8>, Stop> {
-    let mut wrapped = vec![in alloc; 0; site_key.len() + 16]?;
-    wrap(belt, HEADER, site_key, wrapped.as_mut_slice())?;
-    let mut keys = vec![in alloc; 0; KIT]?;
-    let size = kit(
-        belt,
-        HEADER,
-        wrapped.as_slice(),
-        SITE,
-        &mut [0; SCRATCH],
-        keys.as_mut_slice(),
-    )?;
-    keys.truncate(size);
-    Ok(keys)
+fn site_keys<'a>(
+    belt: &mut BeltBlock,
+    site_key: &[u8],
+    room: &'a mut [u8; KIT],
+) -> Result<&'a [u8], Refusal> {
+    let mut wrapped = [0; SCRATCH];
+    let size = wrap(belt, HEADER, site_key, &mut wrapped)?;
+    let wrapped = &wrapped[..size];
+    let size = kit(belt, HEADER, wrapped, SITE, &mut [0; SCRATCH], room)?;
+    Ok(&room[..size])
 }
 
 // Issues a tag for two doors, and reads them as a wand does: genuine, of another site, and garbled.

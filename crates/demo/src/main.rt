@@ -32,15 +32,14 @@ fn main(rt: HostRuntime) -> anyhow::Result<()> {
 
 // Reads the key and the block, and shows them; a refusal on the way is printed here.
 fn read(rt: &HostRuntime, key: &[u8], block: &[u8]) -> anyhow::Result<()> {
-    let key = hexadecimal::decode(rt.alloc(), key)?
-        .filter(|key| key.len() <= LONGEST)
-        .ok_or_else(|| {
-            anyhow!("a key is at most 64 octets, in pairs of upper-case hexadecimal digits")
-        })?;
+    let mut room = [0; LONGEST];
+    let size = hexadecimal::parse(key, &mut room).ok_or_else(|| {
+        anyhow!("a key is at most 64 octets, in pairs of upper-case hexadecimal digits")
+    })?;
     let block = hexadecimal::decode_array(block).ok_or_else(|| {
         anyhow!("a block is 16 octets, in pairs of upper-case hexadecimal digits")
     })?;
-    match show(rt, key.as_slice(), block) {
+    match show(rt, &room[..size], block) {
         Err(refused @ Stop::Refused(_)) => Ok(println!(rt; "{refused}")?),
         shown => Ok(shown?),
     }

@@ -1,6 +1,5 @@
 // Why the demonstration stops before its end.
 use blocks::Refusal;
-use std::alloc::AllocError;
 use std::io;
 use thiserror::Error;
 
@@ -10,6 +9,4 @@ pub enum Stop {
     Refused(#[from] Refusal),
     #[error("{0}")]
     Printing(#[from] io::Error),
-    #[error("{0}")]
-    Memory(#[from(alloc)] AllocError),
 }

@@ -1,5 +1,6 @@
--- A text of digits, pair by pair.
-use Rattle.std.proofs.Common.{◌≡◌, ℕ, zero, suc, ◌+◌, ◌*◌, ◌/◌, ◌<◌, ◌≤◌, true, List, [], ◌∷◌, ◌&&◌, length, get_or, refl, ap, ap₂, ◌∙◌, arith}
+-- A text of digits, digit by digit and pair by pair.
+use Rattle.std.proofs.Common.{◌≡◌, ℕ, zero, suc, ◌+◌, ◌*◌, ◌/◌, ◌<◌, ◌≤◌, Bool, true, List, [], ◌∷◌, ◌&&◌, length, get_or, drop, refl, sym, ap, ap₂, ◌∙◌, arith}
+use Rattle.std.proofs.lemmas.List.{at_drop_more, at_drop_all}
 use Rattle.std.proofs.lemmas.List.Elements.{All-get_or}
 use Rattle.std.proofs.lemmas.List.Sums.{AllPass-from_list_all}
 use Rattle.std.specs.Simd.{first_chunks}
@@ -30,3 +31,11 @@ pair_digits text k a h =
 
 pub pair_octet : (text : List ℕ) (k : ℕ) → k < length text / 2 → octet_at (get_or (first_chunks 2 (length text / 2) text) k []) 0 ≡ octet_at text k
 pair_octet text k h = ap (λ p. octet_at p 0) (pair_at (length text / 2) text k h (omega arith))
+
+-- The loop over a text: the test of the digit at i and of what follows is the test of all.
+pub digits_more : (text : List ℕ) (i : ℕ) (b : Bool) → i < length text → b ≡ is_digit (get_or text i 0)
+    → all_digits (drop i text) ≡ all_digits text → (b && all_digits (drop (i + 1) text)) ≡ all_digits text
+digits_more text i b h e inv = ap (λ t. t && all_digits (drop (i + 1) text)) e ∙ sym (at_drop_more (λ x. all_digits x) text i 0 h) ∙ inv
+
+pub digits-all : (text : List ℕ) (i : ℕ) → length text ≤ i → all_digits (drop i text) ≡ all_digits text → true ≡ all_digits text
+digits-all text i h inv = sym (at_drop_all (λ x. all_digits x) text i h) ∙ inv

@@ -61,12 +61,13 @@ fn pad(q: &[u8]) -> [u8; 16]
     p
 }
 
-// The two marks differ in two constants; one function of both would leave their names to the reader.
+// The two marks differ in two constants; one function of both would leave their names to the reader. The words are copied one further: the
+// library's `rotate_left` and `rotate_right` turn an array through a room of 4,096 octets on the stack.
 fn whole_mark(r: [u8; 16]) -> [u8; 16]
     ensures { result ≡ whole_mark r }
 {
     let mut m = r;
-    m.rotate_left(4);
+    m[..12].copy_from_slice(&r[4..]);
     mix(&r[..4], m, &mut m[12..]);
     m
 }
@@ -75,7 +76,8 @@ fn short_mark(r: [u8; 16]) -> [u8; 16]
     ensures { result ≡ short_mark r }
 {
     let mut m = r;
-    m.rotate_right(4);
+    m[..4].copy_from_slice(&r[12..]);
+    m[4..].copy_from_slice(&r[..12]);
     mix(&r[..4], m, &mut m[..4]);
     m
 }

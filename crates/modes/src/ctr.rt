@@ -8,7 +8,7 @@ ghost use Rattle.modes.specs.Outcome.{mode_answer};
 ghost use Rattle.modes.specs.Laws.{CtrKeeps, CtrUndoes, CtrApart};
 ghost use Rattle.std.proofs.Common.{rules};
 
-use crate::machine::{Mode, apply};
+use crate::machine::{Mode, admit, run};
 use crate::parts::mix;
 use blocks::octets::{Number, xor};
 use blocks::{Block, Refusal};
@@ -75,6 +75,9 @@ pub fn ctr<B: Block>(
     ensures undone { CtrUndoes }
     ensures apart { CtrApart }
 {
+    // No `apply`: a refused call is not to step the block.
+    let n = admit(Counter::LEAST, message.len(), out.len())?;
     let at = block.forward(start);
-    apply(&mut Counter { at }, block, message, out)
+    run(&mut Counter { at }, block, message, &mut out[..n]);
+    Ok(n)
 }

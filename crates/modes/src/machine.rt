@@ -50,7 +50,7 @@ pub(crate) trait Mode {
 }
 
 // The number of octets to write, or the first rule that forbids it.
-fn admit(least: usize, size: usize, room: usize) -> Result<usize, Refusal>
+pub(crate) fn admit(least: usize, size: usize, room: usize) -> Result<usize, Refusal>
     ensures { result ≡ mode_answer least size room }
 {
     if size > LONGEST {
@@ -97,7 +97,7 @@ fn whole(n: usize, least: usize) -> usize
 }
 
 // Puts a text that a mode takes through it, into an output of the same length.
-fn run<T: Mode, B: Block>(mode: &mut T, block: &mut B, text: &[u8], out: &mut [u8])
+pub(crate) fn run<T: Mode, B: Block>(mode: &mut T, block: &mut B, text: &[u8], out: &mut [u8])
     requires { (T.Mode.LEAST ≤ length text.now) × (length out.old ≡ length text.now) }
     ensures text { out.new ≡ T.Mode.makes mode.old (B.meaning block.old) text.now }
     ensures same { B.meaning block.new ≡ B.meaning block.old }

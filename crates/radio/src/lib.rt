@@ -28,7 +28,6 @@ use modes::cfb::{cfb_decrypt, cfb_encrypt};
 use modes::checksum::checksum;
 use modes::ctr::ctr;
 use modes::ecb::{ecb_decrypt, ecb_encrypt};
-use modes::scratch::Wipe;
 use modes::wrap::{unwrap, wrap};
 use rounds::tag::issue;
 
@@ -243,10 +242,17 @@ pub extern "C" fn muchqawi_unwrap(
     ensures told { Told (keyed key.now (unwrap_answer (under key.now).image (sixteen first second) text.now (length scratch.old) (length out.old))) (key_found (under key.now).image text.now) out.old result out.new }
     ensures wiped { scratch.new ≡ replicate (length scratch.old) 0 }
 {
-    let guard = Wipe { scratch };
-    under_key(key, out, |block, out| {
-        unwrap(block, octets(first, second), text, guard.scratch, out)
-    })
+    // No `under_key`, whose closure would borrow the scratch. `unwrap` zeroes it, and where the key makes no block nothing else would.
+    match BeltBlock::new(key) {
+        Ok(mut block) => {
+            let answer = unwrap(&mut block, octets(first, second), text, scratch, out);
+            answer_number(&answer)
+        }
+        Err(refusal) => {
+            scratch.fill(0);
+            refusal.number()
+        }
+    }
 }
 
 // Writes the checksum of a message, 8 octets.

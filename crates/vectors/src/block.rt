@@ -47,6 +47,7 @@ fn other_key_lengths_are_refused(rt: HostRuntime) -> Result<(), Fail> {
     for n in [0, 1, 15, 17, 23, 25, 31, 33, 64] {
         let key = vec![in rt.alloc(); 7; n]?;
         assert_eq!(rt; expand(&key), Err(Refusal::KeyLength), "{n} octets");
+        assert_eq!(rt; answer_number(&expand(&key)), 34);
         assert_eq!(rt; BeltBlock::new(&key).err(), Some(Refusal::KeyLength));
         assert_eq!(rt; answer_number(&BeltBlock::new(&key)), 34);
     }

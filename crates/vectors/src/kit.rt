@@ -39,7 +39,7 @@ fn transformed(rt: &(impl Abort + AllocGlobal), site_key: &[u8]) -> Result<Vec<u
     let mut keys = Vec::new(rt.alloc());
     for i in [1, 2, 3] {
         let header = [i, 2, 1, 0, 0, 0, 0, 0, 0, 0, 0, 0, 0, 0, 0, 0];
-        let key = written(rt, n, |out| transform(site_key, [0; 12], header, n, out))?;
+        let key = written(rt, 32, |out| transform(site_key, [0; 12], header, n, out))?;
         assert_eq!(rt; key.len(), n);
         keys.extend_from_slice(&key)?;
     }

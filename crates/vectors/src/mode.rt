@@ -1,6 +1,7 @@
 // The modes and the checksum over the BelT block: lengths, refusals and counting.
 use crate::text::written;
 use belt::BeltBlock;
+use blocks::answers::answer_number;
 use blocks::{BenchBlock, Refusal};
 use modes::cbc::{cbc_decrypt, cbc_encrypt};
 use modes::cfb::{cfb_decrypt, cfb_encrypt};
@@ -72,10 +73,13 @@ where
 {
     let text = run(rt, there, block, START, message, 65_540);
     if message.len() > 65_536 {
+        assert_eq!(rt; answer_number(&text), 32);
         assert_eq!(rt; text, Err(Refusal::LongMessage));
     } else if message.len() < least {
+        assert_eq!(rt; answer_number(&text), 33);
         assert_eq!(rt; text, Err(Refusal::ShortMessage));
     } else {
+        assert_eq!(rt; answer_number(&text), 0);
         let text = text?;
         assert_eq!(rt; text.len(), message.len());
         let again = run(rt, back, block, START, &text, 65_540)?;
@@ -141,11 +145,9 @@ where
         (&x[..48], 47, Refusal::ShortOutput),
         (&x[..15], 14, of_fifteen),
     ] {
-        assert_eq!(rt;
-            run(rt, &call, block, START, message, room),
-            Err(refusal),
-            "output of {room}"
-        );
+        let answer = run(rt, &call, block, START, message, room);
+        assert_eq!(rt; answer_number(&answer), refusal.number());
+        assert_eq!(rt; answer, Err(refusal), "output of {room}");
     }
 }
 
@@ -153,8 +155,9 @@ fn checksum_refuses(rt: &impl Abort, block: &mut BeltBlock) {
     let message = sample();
     let longest = &message[..65_536];
     assert_eq!(rt; checksum(block, &message), Err(Refusal::LongMessage));
-    assert!(rt; checksum(block, longest).is_ok());
-    assert!(rt; checksum(block, &[]).is_ok());
+    assert_eq!(rt; answer_number(&checksum(block, &message)), 32);
+    assert_eq!(rt; answer_number(&checksum(block, longest)), 0);
+    assert_eq!(rt; answer_number(&checksum(block, &[])), 0);
 }
 
 #[test]
@@ -178,8 +181,8 @@ fn refusals(rt: HostRuntime) -> Result<(), Fail> {
 #[test]
 fn counts(rt: HostRuntime) -> Result<(), Fail> {
     let mut block = BenchBlock::new([0; 16]);
+    let mut out = [85; 16];
     for (start, count) in [(0xFF_u128, 0x0100), (u128::MAX, 0)] {
-        let mut out = [85; 16];
         assert_eq!(rt;
             ctr(&mut block, start.to_be_bytes(), &[0; 16], &mut out)?,
             16

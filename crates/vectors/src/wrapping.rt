@@ -188,7 +188,7 @@ fn a_flipped_octet_is_refused(rt: HostRuntime) -> Result<(), Fail> {
 fn every_scratch_is_zeroed(rt: HostRuntime) -> Result<(), Fail> {
     let mut block = BeltBlock::new(&KEY)?;
     let key_text = &sample()[..20];
-    let text = wraps(&rt, &mut block, key_text, 36)?;
+    let text = wraps(&rt, &mut block, key_text, 272)?;
     assert_eq!(rt;
         unwraps(&rt, &mut block, &text, 0, 20),
         Err(Refusal::ShortOutput)

@@ -9,3 +9,12 @@ returns-clause-undone g c = ctr-undoes
 
 pub returns-clause-apart : goal.returns-clause-apart
 returns-clause-apart g c = ctr-apart
+
+pub returns-in_err-n-clause-keeps : goal.returns-in_err-n-clause-keeps
+returns-in_err-n-clause-keeps g c = ctr-keeps
+
+pub returns-in_err-n-clause-undone : goal.returns-in_err-n-clause-undone
+returns-in_err-n-clause-undone g c = ctr-undoes
+
+pub returns-in_err-n-clause-apart : goal.returns-in_err-n-clause-apart
+returns-in_err-n-clause-apart g c = ctr-apart
