@@ -1,7 +1,7 @@
 // Octets in hexadecimal digits: reading and showing.
 #![tactic(auto)]
 
-ghost use Rattle.std.specs.Prelude.{◌≡◌, ◌+◌, ◌*◌, ◌/◌, ◌<◌, ◌==◌, ◌&&◌, true, false, length, cond, IfOk, IfSome, is_some};
+ghost use Rattle.std.specs.Prelude.{◌≡◌, ◌+◌, ◌*◌, ◌/◌, ◌<◌, ◌==◌, ◌&&◌, true, false, length, IfOk, IfSome, is_some};
 ghost use Rattle.hexadecimal.specs.Digits.{is_digit, digit_value, all_digits, octet_at};
 ghost use Rattle.hexadecimal.specs.Parsed.{parse_answer, Parsed, is_octets, Writes};
 

@@ -61,8 +61,8 @@ fn pad(q: &[u8]) -> [u8; 16]
     p
 }
 
-// The two marks differ in two constants; one function of both would leave their names to the reader. The words are copied one further: the
-// library's `rotate_left` and `rotate_right` turn an array through a room of 4,096 octets on the stack.
+// The words go one place to the front in one mark, and to the back in the other; one function of both would leave their names to the reader.
+// They are copied: the library's `rotate_left` and `rotate_right` turn an array through a room of 4,096 octets on the stack.
 fn whole_mark(r: [u8; 16]) -> [u8; 16]
     ensures { result ≡ whole_mark r }
 {

@@ -65,7 +65,7 @@ pub(crate) fn admit(least: usize, size: usize, room: usize) -> Result<usize, Ref
     Ok(size)
 }
 
-// Puts a message through a mode, or says what forbids it: the one function that the public calls of the modes are instances of. They
+// Puts a message through a mode, or says what forbids it: the one function that the public calls of ECB, CBC and CFB are instances of. They
 // stay named for each mode and way, since the theorems of each stand on its own contract, and a clause cannot name a trait's law.
 pub(crate) fn apply<T: Mode, B: Block>(
     mode: &mut T,
