@@ -13,6 +13,7 @@ const SITE: u16 = 1;
 
 const HEADER: [u8; 16] = *b"site one, key 01";
 
+#[inline(never)]
 pub fn show(rt: &HostRuntime, belt: &mut BeltBlock, site_key: &[u8]) -> Result<(), Stop> {
     let mut room = [0; KIT];
     let keys = site_keys(belt, site_key, &mut room)?;

@@ -6,6 +6,7 @@ use blocks::{BenchBlock, Block, PairBlock};
 use hexadecimal::Hex;
 use std::io;
 
+#[inline(never)]
 pub fn show(rt: &HostRuntime, belt: &mut BeltBlock, block: [u8; 16]) -> io::Result<()> {
     println!(rt; "by BelT")?;
     show_steps(rt, belt, block)?;

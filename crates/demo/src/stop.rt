@@ -5,6 +5,7 @@ use thiserror::Error;
 
 #[derive(Debug, Drop, Error)]
 pub enum Stop {
+    // Shown by `show_refusal`, in the same words.
     #[error("refused   {}", .0.number())]
     Refused(#[from] Refusal),
     #[error("{0}")]

@@ -16,6 +16,7 @@ const TEXT: [u8; SIZE] = *b"door 7 at night, and door 12 by day";
 
 const START: [u8; 16] = *b"a start of its o";
 
+#[inline(never)]
 pub fn show(rt: &HostRuntime, belt: &mut BeltBlock) -> Result<(), Stop> {
     println!(rt; "the text  {}", Hex(&TEXT))?;
     show_mode(rt, belt, "ECB", ecb_encrypt, ecb_decrypt)?;
